@@ -1,0 +1,12 @@
+mod Rows
+mod Fetch
+mod Inv
+mod Lanes
+mod Passes
+mod Bodies
+mod Run
+mod CommitOk
+mod CheckExact
+mod Ghost
+mod Turns
+mod Instance

@@ -1,0 +1,164 @@
+-- The trace says what demand 3's claims need: who asked for a predicted row, and what each live lane read.
+use Prim.Native.Nat.{ℕ, suc, _+_, _≤_, _<_}
+use mathlib.Core.Path.{_≡_}
+use mathlib.Core.Logic.{_⊎_, _↔_}
+use mathlib.Core.Bool.{Bool, true, false}
+use mathlib.Core.Option.{Option, none, some}
+use mathlib.Core.List.{List, [], _∷_}
+use lib.ListN.{length, getD, getElem?}
+use Rattle.model.specs.Book.Syntax.{Counter, QueryEntry, Var, WriteVal, Instr, LookupOrInsertDefault, LookupWithDefault, Lookup, LookupWithFallback, Insert, InsertIfEq, Remove, External, ExternalWithFallback, AssertEq, AssertNe, AssertAnyNe, ReadCounter, Step, batch, prediction, ruleAt}
+use Rattle.model.specs.Check.{entriesOf, readsOf}
+use Rattle.model.specs.Machine.State.{State, Site, Record, Event, reads, took, asks, going, predicted, Env}
+use Rattle.model.specs.Machine.Values.{valueOf, valuesOf, find}
+use Rattle.model.specs.Machine.Steps.{here, tableOf, begin, instructions, run}
+
+-- x stands in the list
+abbrev pub In : {A : Type 0} → A → List A → Type 0
+In x xs = (i : ℕ) × (getElem? xs i ≡ some x)
+
+-- a word that the trace has lane o reading: from its entries, or from a row
+abbrev pub Noted : List Event → Site → ℕ → Type 0
+Noted tr o w = (ws : List ℕ) × (In (reads o ws) tr ⊎ In (took o ws) tr) × In w ws
+
+-- ## What an instruction makes a lane read
+
+-- the entries that each live lane reads
+unfoldable pub readFirst : Instr → List QueryEntry
+readFirst (LookupOrInsertDefault t args vs col dst) = args
+readFirst (LookupWithDefault t args col dst e) = args
+readFirst (Lookup t args col dst) = args
+readFirst (LookupWithFallback t key f args col dst) = key
+readFirst (Insert t vals) = vals
+readFirst (InsertIfEq t l r vals) = l ∷ r ∷ []
+readFirst (Remove t args) = args
+readFirst (External f args dst) = args
+readFirst (ExternalWithFallback f1 args1 f2 args2 dst) = args1
+readFirst (AssertEq l r) = l ∷ r ∷ []
+readFirst (AssertNe l r) = l ∷ r ∷ []
+readFirst (AssertAnyNe d ops) = ops
+readFirst (ReadCounter c dst) = []
+
+-- the entries that it reads only then (`Goes` below): write values of a row that it builds, a default, the arguments of a fallback, the row of 6
+unfoldable pub readThen : Instr → List QueryEntry
+readThen (LookupOrInsertDefault t args vs col dst) = entriesOf vs
+readThen (LookupWithDefault t args col dst e) = e ∷ []
+readThen (Lookup t args col dst) = []
+readThen (LookupWithFallback t key f args col dst) = args
+readThen (Insert t vals) = []
+readThen (InsertIfEq t l r vals) = vals
+readThen (Remove t args) = []
+readThen (External f args dst) = []
+readThen (ExternalWithFallback f1 args1 f2 args2 dst) = args2
+readThen (AssertEq l r) = []
+readThen (AssertNe l r) = []
+readThen (AssertAnyNe d ops) = []
+readThen (ReadCounter c dst) = []
+
+-- the two are all entries of an instruction that the check looks at
+abbrev pub ReadsAll : Type 0
+ReadsAll = (ins : Instr) (e : QueryEntry) → In e (readsOf ins) ↔ (In e (readFirst ins) ⊎ In e (readThen ins))
+
+-- the lookup that it begins with
+pub record LookupAt : Type 0 where
+  pub table : ℕ
+  pub key : List QueryEntry
+  pub col : ℕ
+  pub dst : ℕ
+
+unfoldable pub lookupOf : Instr → Option LookupAt
+lookupOf (LookupOrInsertDefault t args vs col dst) = some (record { table = t; key = args; col = col; dst = dst })
+lookupOf (LookupWithDefault t args col dst e) = some (record { table = t; key = args; col = col; dst = dst })
+lookupOf (Lookup t args col dst) = some (record { table = t; key = args; col = col; dst = dst })
+lookupOf (LookupWithFallback t key f args col dst) = some (record { table = t; key = key; col = col; dst = dst })
+lookupOf (Insert t vals) = none
+lookupOf (InsertIfEq t l r vals) = none
+lookupOf (Remove t args) = none
+lookupOf (External f args dst) = none
+lookupOf (ExternalWithFallback f1 args1 f2 args2 dst) = none
+lookupOf (AssertEq l r) = none
+lookupOf (AssertNe l r) = none
+lookupOf (AssertAnyNe d ops) = none
+lookupOf (ReadCounter c dst) = none
+
+module _ (E : Env) where
+  -- no committed row has the key that the entries stand for in lane i
+  abbrev pub Misses : State → ℕ → ℕ → List QueryEntry → List ℕ → Type 0
+  Misses s i t args key = (valuesOf (s .bindings) i args ≡ some key) × (find (tableOf E t .keys) (tableOf E t .rows) key ≡ none)
+
+  -- where lane i comes to the entries of `readThen`: it stages a row, found no row, l = r, f1 gave nothing
+  abbrev pub Goes : (k j : ℕ) → State → State → ℕ → Instr → Type 0
+  Goes k j s s′ i (LookupOrInsertDefault t args vs col dst) = (r : Record) × (n : ℕ) × (length (s .log) ≤ n) × (getElem? (s′ .log) n ≡ some r) × (r .site ≡ here k j i)
+  Goes k j s s′ i (LookupWithDefault t args col dst e) = (key : List ℕ) × Misses s i t args key
+  Goes k j s s′ i (Lookup t args col dst) = ⊥
+  Goes k j s s′ i (LookupWithFallback t key f args col dst) = (ws : List ℕ) × Misses s i t key ws
+  Goes k j s s′ i (Insert t vals) = ⊥
+  Goes k j s s′ i (InsertIfEq t l r vals) = (a : ℕ) × (valueOf (s .bindings) i l ≡ some a) × (valueOf (s .bindings) i r ≡ some a)
+  Goes k j s s′ i (Remove t args) = ⊥
+  Goes k j s s′ i (External f args dst) = ⊥
+  Goes k j s s′ i (ExternalWithFallback f1 args1 f2 args2 dst) = (ws : List ℕ) × (valuesOf (s .bindings) i args1 ≡ some ws) × (E .answer (here k j i) 0 f1 ws ≡ none)
+  Goes k j s s′ i (AssertEq l r) = ⊥
+  Goes k j s s′ i (AssertNe l r) = ⊥
+  Goes k j s s′ i (AssertAnyNe d ops) = ⊥
+  Goes k j s s′ i (ReadCounter c dst) = ⊥
+
+  module _ (counters : List Counter) (steps : List Step) where
+    -- the batch of step k before instruction j
+    abbrev pub before : (k r n : ℕ) → List (List ℕ) → ℕ → State
+    before k r n columns j = instructions E k (ruleAt (E .rules) r) j (begin k (ruleAt (E .rules) r) n columns (run E counters steps k))
+
+    -- instruction j of step k comes to lane i, which is live
+    pub record Comes (k j i : ℕ) (ins : Instr) : Type 0 where
+      pub rule : ℕ
+      pub lanes : ℕ
+      pub columns : List (List ℕ)
+      pub isStep : getElem? steps k ≡ some (batch rule lanes columns)
+      pub isInstr : getElem? (ruleAt (E .rules) rule .instrs) j ≡ some ins
+      pub begun : run E counters steps k .status ≡ going
+      pub goes : before k rule lanes columns j .status ≡ going
+      pub live : getD (before k rule lanes columns j .live) i false ≡ true
+
+    -- the states before and after the instruction
+    abbrev pub pre : {k j i : ℕ} {ins : Instr} → Comes k j i ins → State
+    pre {k} {j} c = before k (c .rule) (c .lanes) (c .columns) j
+
+    abbrev pub post : {k j i : ℕ} {ins : Instr} → Comes k j i ins → State
+    post {k} {j} c = before k (c .rule) (c .lanes) (c .columns) (suc j)
+
+    -- who asks for the predicted row of a table and key: a lane of a lookup-or-insert, or a prediction, that finds no committed row
+    pub data Asker : Site → ℕ → List ℕ → Type 0 where
+      lane : {k j i t : ℕ} {key : List ℕ} (args : List QueryEntry) (vs : List WriteVal) (col dst : ℕ) (c : Comes k j i (LookupOrInsertDefault t args vs col dst))
+          → Misses (pre c) i t args key → Asker (here k j i) t key
+      predicts : {k t : ℕ} {key : List ℕ} (vs : List WriteVal) → getElem? steps k ≡ some (prediction t key vs) → run E counters steps k .status ≡ going
+          → find (tableOf E t .keys) (tableOf E t .rows) key ≡ none → Asker (here k 0 0) t key
+
+    -- ## The claims
+
+    -- an `asks` event comes from an asker,
+    abbrev pub AsksSound : Type 0
+    AsksSound = (n : ℕ) (o : Site) (t : ℕ) (key r : List ℕ) → In (asks o t key r) (run E counters steps n .trace) → Asker o t key × (o .step < n)
+
+    -- and each asker has one, unless the run was cut off before its row: then the step does not end, and no later lane of it has one either
+    abbrev pub AsksComplete : Type 0
+    AsksComplete = (n : ℕ) (o : Site) (t : ℕ) (key : List ℕ) → Asker o t key → o .step < n
+        → ((r : List ℕ) × In (asks o t key r) (run E counters steps n .trace))
+        ⊎ ((run E counters steps (suc (o .step)) .status ≡ going → ⊥) × ((i t′ : ℕ) (key′ r : List ℕ) → o .lane ≤ i → In (asks (here (o .step) (o .instr) i) t′ key′ r) (run E counters steps n .trace) → ⊥))
+
+    -- what a live lane reads of an instruction that ends is in a `reads` or `took` event of its own: what its entries stand for,
+    abbrev pub EntriesNoted : Type 0
+    EntriesNoted = (n k j i : ℕ) (ins : Instr) (c : Comes k j i ins) → post c .status ≡ going → k < n → (e : QueryEntry) → In e (readFirst ins) ⊎ (In e (readThen ins) × Goes k j (pre c) (post c) i ins)
+        → (w : ℕ) × (valueOf (pre c .bindings) i e ≡ some w) × Noted (run E counters steps n .trace) (here k j i) w
+
+    -- and the row that its dst comes from: the committed row, or of a lookup-or-insert that finds none the predicted row
+    abbrev pub RowsNoted : Type 0
+    RowsNoted = (n k j i : ℕ) (ins : Instr) (c : Comes k j i ins) → post c .status ≡ going → k < n
+        → (l : LookupAt) → lookupOf ins ≡ some l
+        → (key : List ℕ) → valuesOf (pre c .bindings) i (l .key) ≡ some key
+        → ((r : List ℕ) → find (tableOf E (l .table) .keys) (tableOf E (l .table) .rows) key ≡ some r
+        → In (took (here k j i) r) (run E counters steps n .trace) × (getElem? r (l .col) ≡ valueOf (post c .bindings) i (Var (l .dst))))
+        × ((args : List QueryEntry) (vs : List WriteVal) → ins ≡ LookupOrInsertDefault (l .table) args vs (l .col) (l .dst) → find (tableOf E (l .table) .keys) (tableOf E (l .table) .rows) key ≡ none
+        → (r : List ℕ) × In (asks (here k j i) (l .table) key r) (run E counters steps n .trace) × In (took (here k j i) r) (run E counters steps n .trace) × (getElem? r (l .col) ≡ valueOf (post c .bindings) i (Var (l .dst))))
+
+    -- a prediction reads the row it answers
+    abbrev pub AnswersNoted : Type 0
+    AnswersNoted = (n k t : ℕ) (key : List ℕ) (vs : List WriteVal) → getElem? steps k ≡ some (prediction t key vs) → run E counters steps (suc k) .status ≡ going → k < n
+        → (new : Bool) × (r : List ℕ) × (run E counters steps (suc k) .answers ≡ predicted new r ∷ run E counters steps k .answers) × In (took (here k 0 0) r) (run E counters steps n .trace)

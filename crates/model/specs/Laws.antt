@@ -1,0 +1,9 @@
+pub mod Logic
+pub mod Lists
+pub mod Words
+pub mod Contents
+pub mod Rows
+pub mod Steps
+pub mod Scan
+pub mod Bodies
+pub mod Read

@@ -1,0 +1,9 @@
+pub mod Basics
+pub mod Book
+pub mod Check
+pub mod Machine
+pub mod Commit
+pub mod Answer
+pub mod Outcome
+pub mod Claims
+pub mod Laws

@@ -1,0 +1,4 @@
+pub mod State
+pub mod Values
+pub mod Steps
+pub mod Functions

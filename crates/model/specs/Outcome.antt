@@ -1,0 +1,110 @@
+-- A book to its answer or its refusal, in the order of document 01.
+use Prim.Native.Nat.{ℕ, _+_}
+use mathlib.Core.Path.{_≡_}
+use mathlib.Core.Bool.{Bool, true, _&&_}
+use mathlib.Core.Option.{Option, none, some}
+use mathlib.Core.List.{List}
+use lib.Dec.{eqb, leb}
+use lib.ListN.{length}
+use Rattle.model.specs.Basics.{found, _else_, firstSome}
+use Rattle.model.specs.Book.Syntax.{Table, Rule}
+use Rattle.model.specs.Book.Words.{Refusal, unless, wordsOf, bytesRefusal}
+use Rattle.model.specs.Book.Contents.{contentsRefusal, firstOf, firstRule, firstStep, ruleCount}
+use Rattle.model.specs.Book.Decode.{readRule, instrPlace}
+use Rattle.model.specs.Book.Read.{bodiesRefusal, tables, counters, rules, steps, stepsRefusal}
+use Rattle.model.specs.Check.{check}
+use Rattle.model.specs.Machine.State.{State, Status, going, stuck, spent, full, Env}
+use Rattle.model.specs.Machine.Functions.{arity, withFunctions}
+use Rattle.model.specs.Machine.Steps.{run}
+use Rattle.model.specs.Commit.{commit}
+use Rattle.model.specs.Answer.{answer, rowWords, Arranged}
+
+-- the lengths of what is lent besides the book, in words
+pub record Lent : Type 0 where
+  pub bindings : ℕ
+  pub index : ℕ
+  pub log : ℕ
+  pub tables : ℕ
+  pub answer : ℕ
+
+pub data Outcome : Type 0 where
+  refused : Refusal → Outcome
+  accepted : (words : List ℕ) → Outcome
+
+-- 14: bindings or index not 8192 words; log or tables over 16384
+abbrev pub lentRefusal : Lent → Option Refusal
+lentRefusal l = unless (eqb (l .bindings) 8192 && eqb (l .index) 8192 && leb (l .log) 16384 && leb (l .tables) 16384) 14 0
+
+-- ## What a book draws before it is run
+
+module _ (w : List ℕ) where
+  -- rule r, counted from 0, and its first word
+  abbrev pub ruleFirst : ℕ → ℕ
+  ruleFirst r = firstOf w (firstRule w + r)
+
+  -- 8, 7, 10, 9, at the instruction
+  unfoldable pub ruleRefusal : ℕ → Option Refusal
+  ruleRefusal r =
+      found (check (tables w) arity (readRule w (ruleFirst r)) (length (readRule w (ruleFirst r) .instrs)))
+      (λ e. some (record { number = e .0; place = instrPlace w (ruleFirst r) (e .1) }))
+      (λ _. none)
+
+  unfoldable pub rulesRefusal : Option Refusal
+  rulesRefusal = firstSome ruleRefusal (ruleCount w)
+
+  -- refusals 2 to 11
+  unfoldable pub wordsRefusal : Option Refusal
+  wordsRefusal = contentsRefusal w else λ _. bodiesRefusal w else λ _. rulesRefusal else λ _. stepsRefusal w
+
+-- refusals 1 to 11
+unfoldable pub bookRefusal : List ℕ → Option Refusal
+bookRefusal book = bytesRefusal book else λ _. wordsRefusal (wordsOf book)
+
+-- ## The run
+
+module _ (w : List ℕ) where
+  -- the book with the functions 0 to 7 and some room for the log
+  abbrev pub envOf : (ℕ → Bool) → Env
+  envOf room = withFunctions (tables w) (rules w) room
+
+  unfoldable pub ran : Lent → State
+  ran l = run (envOf (λ n. leb n (l .log))) (counters w) (steps w) (length (steps w))
+
+  abbrev pub committedBy : State → List Table
+  committedBy s = commit (s .log) (tables w) 0
+
+-- the step, at its place in the contents, at which a run ended early: a counter spent, the log full. (No book comes to `stuck` here.)
+abbrev pub ended : Status → ℕ → Option Refusal
+ended going p = none
+ended stuck p = none
+ended spent p = some (record { number = 13; place = p })
+ended full p = some (record { number = 12; place = p })
+
+-- 12 or 13, 15, 16: of the tables after the commit and what the run left; the steps begin at entry p
+unfoldable pub endRefusal : Lent → ℕ → List Table → State → Option Refusal
+endRefusal l p ts s =
+    ended (s .status) (p + length (s .answers)) else λ _.
+    unless (leb (rowWords ts) (l .tables)) 15 0 else λ _.
+    unless (leb (length (answer ts s)) (l .answer)) 16 0
+
+unfoldable pub concluded : Lent → ℕ → List Table → State → Outcome
+concluded l p ts s = found (endRefusal l p ts s) refused (λ _. accepted (answer ts s))
+
+unfoldable pub finished : Lent → List ℕ → State → Outcome
+finished l w s = concluded l (firstStep w) (committedBy w s) s
+
+-- 14, 1, 2, the bodies, the rules, 11, the run, 15, 16
+unfoldable pub outcome : Lent → List ℕ → Outcome
+outcome l book =
+    found (lentRefusal l else λ _. bookRefusal book) refused
+    (λ _. finished l (wordsOf book) (ran (wordsOf book) l))
+
+-- ## What a call may return
+-- The order of the rows in a table is left open: the rows are the committed ones, each once.
+
+abbrev pub Permitted : Lent → List ℕ → Outcome → Type 0
+Permitted l book (refused r) = outcome l book ≡ refused r
+Permitted l book (accepted ws) =
+    let w = wordsOf book in
+    let s = ran w l in
+    (us : List Table) × Arranged (committedBy w s) us × (ws ≡ answer us s) × (outcome l book ≡ accepted (answer (committedBy w s) s))
