@@ -13,7 +13,7 @@ use Rattle.model.specs.Machine.State.{State, Site, isGoing, Bindings, En
 use Rattle.model.specs.Machine.Values.{hold}
 use Rattle.model.specs.Machine.Steps.{here, tableOf, lookup, invoke, takeDefault, serveMissed, stageList, readPair, assertAnyNe, lanes, missed, wait, plain, body}
 use Rattle.model.specs.Check.{Sound, sizesOf, readsOf, heldOf, columnsOf, IsKnown, NotHeld, entriesOf}
-use Rattle.model.specs.Claims.Demand3.{TableOk, CleanConst, CounterOk}
+use Rattle.model.specs.Laws.Supposed.{TableOk, CleanConst, CounterOk}
 use Rattle.model.specs.Laws.Logic.{none-some, when-ind, All-getD, All-left, All-right}
 use Rattle.model.proofs.Fetch.{But, hold-read, held-known}
 use Rattle.model.proofs.Inv.{Inv, weaken}

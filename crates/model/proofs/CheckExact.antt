@@ -14,27 +14,27 @@ use Rattle.model.specs.Book.Syntax.{QueryEntry, Var, Const, Instr, dstOf
 use Rattle.model.specs.Check.{Size, exactly, atLeast, readsOf, heldOf, sizesOf, columnsOf, Fits, IsKnown, NotHeld, Below, Sound, Known, Conditions, fits?, known?, isVar, free?, below?, refuse, checkInstr, isDst, bound?, check, checkAt, placed}
 use Rattle.model.specs.Laws.Logic.{and-T, T-and, or-T, or-l, or-r, some-inj, none-some, found-ind, at-below, either, le-cases}
 
-all→All : {A : Type 0} (P : A → Type 0) (f : A → Bool) → ((x : A) → T (f x) → P x) → (xs : List A) → T (all f xs) → All P xs
+pub all→All : {A : Type 0} (P : A → Type 0) (f : A → Bool) → ((x : A) → T (f x) → P x) → (xs : List A) → T (all f xs) → All P xs
 all→All P f h [] t = tt
 all→All P f h (x ∷ xs) t = let p = and-T (f x) (all f xs) t in (h x (p .0), all→All P f h xs (p .1))
 
-All→all : {A : Type 0} (P : A → Type 0) (f : A → Bool) → ((x : A) → P x → T (f x)) → (xs : List A) → All P xs → T (all f xs)
+pub All→all : {A : Type 0} (P : A → Type 0) (f : A → Bool) → ((x : A) → P x → T (f x)) → (xs : List A) → All P xs → T (all f xs)
 All→all P f h [] p = tt
 All→all P f h (x ∷ xs) p = T-and (f x) (all f xs) (h x (p .0)) (All→all P f h xs (p .1))
 
-fits→ : (z : Size) → T (fits? z) → Fits z
+pub fits→ : (z : Size) → T (fits? z) → Fits z
 fits→ (exactly n m) t = eqb→eq n m t
 fits→ (atLeast n m) t = leb→le m n t
 
-→fits : (z : Size) → Fits z → T (fits? z)
+pub →fits : (z : Size) → Fits z → T (fits? z)
 →fits (exactly n m) e = subst (λ x. T (eqb n x)) e (eqb-refl n)
 →fits (atLeast n m) h = le→leb m n h
 
-known→ : (K : ℕ → Type 0) (b : ℕ → Bool) → ((v : ℕ) → T (b v) → K v) → (e : QueryEntry) → T (known? b e) → IsKnown K e
+pub known→ : (K : ℕ → Type 0) (b : ℕ → Bool) → ((v : ℕ) → T (b v) → K v) → (e : QueryEntry) → T (known? b e) → IsKnown K e
 known→ K b h (Var v) t = h v t
 known→ K b h (Const c) t = tt
 
-→known : (K : ℕ → Type 0) (b : ℕ → Bool) → ((v : ℕ) → K v → T (b v)) → (e : QueryEntry) → IsKnown K e → T (known? b e)
+pub →known : (K : ℕ → Type 0) (b : ℕ → Bool) → ((v : ℕ) → K v → T (b v)) → (e : QueryEntry) → IsKnown K e → T (known? b e)
 →known K b h (Var v) k = h v k
 →known K b h (Const c) k = tt
 
@@ -42,16 +42,16 @@ is-var : (x : ℕ) (e : QueryEntry) → T (isVar x e) → e ≡ Var x
 is-var x (Var v) t = ap Var (eqb→eq v x t)
 is-var x (Const c) t = absurd t
 
-free→ : (p : ℕ × QueryEntry) → T (free? p) → NotHeld p
+pub free→ : (p : ℕ × QueryEntry) → T (free? p) → NotHeld p
 free→ p t e = T-not (isVar (p .0) (p .1)) t (subst (λ y. T (isVar (p .0) y)) (sym e) (eqb-refl (p .0)))
 
-→free : (p : ℕ × QueryEntry) → NotHeld p → T (free? p)
+pub →free : (p : ℕ × QueryEntry) → NotHeld p → T (free? p)
 →free p h = not-T (isVar (p .0) (p .1)) λ t. h (is-var (p .0) (p .1) t)
 
-below→ : (p : ℕ × ℕ) → T (below? p) → Below p
+pub below→ : (p : ℕ × ℕ) → T (below? p) → Below p
 below→ p t = ltb→lt (p .0) (p .1) t
 
-→below : (p : ℕ × ℕ) → Below p → T (below? p)
+pub →below : (p : ℕ × ℕ) → Below p → T (below? p)
 →below p h = lt→ltb (p .0) (p .1) h
 
 -- ## What is bindings
@@ -91,7 +91,7 @@ module _ (r : Rule) where
   dstHere j v = found-ind (λ b. T b → Known r (suc j) v) (getElem? (r .instrs) j) _ _
       (λ ins e t. inr (j, omega arith, ins, e, dst→ (dstOf ins) v t)) (λ _ t. absurd t)
 
-  bound→ : (j v : ℕ) → T (bound? r j v) → Known r j v
+  pub bound→ : (j v : ℕ) → T (bound? r j v) → Known r j v
   unfolding bound?
   bound→ zero v t = inl (ltb→lt v (r .starts) t)
   bound→ (suc j) v t = either (λ p. later j v (bound→ j v p)) (λ p. dstHere j v p) (or-T (bound? r j v) (isDstAt j v) t)
@@ -107,7 +107,7 @@ module _ (r : Rule) where
       go (inl h) = inl (inr (p .0, h, p .2, p .3, p .4))
       go (inr e) = inr (p .2, subst (λ x. getElem? (r .instrs) x ≡ some (p .2)) e (p .3), p .4)
 
-  →bound : (j v : ℕ) → Known r j v → T (bound? r j v)
+  pub →bound : (j v : ℕ) → Known r j v → T (bound? r j v)
   unfolding bound?
   →bound zero v (inl h) = lt→ltb v (r .starts) h
   →bound zero v (inr p) = absurd (not-suc-le-zero (p .1))

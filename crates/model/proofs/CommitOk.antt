@@ -14,7 +14,7 @@ use Rattle.model.specs.Basics.{iter, when, found, eqList, keepIf, All, A
 use Rattle.model.specs.Book.Syntax.{Clean, Table, width, tableAt}
 use Rattle.model.specs.Machine.State.{Record, recordSize, Env}
 use Rattle.model.specs.Commit.{mergeWord, mergeWords, hasKey, without, put, removal, insertion, removals, insertions, committed, commit}
-use Rattle.model.specs.Claims.Demand3.{TableOk}
+use Rattle.model.specs.Laws.Supposed.{TableOk}
 use Rattle.model.specs.Laws.Logic.{and-T, eqList-refl, found-ind, when-ind, All-map, All-append, All-left, All-right, All-getD, All-at, All-zip}
 
 take-drop-All : (P : ℕ → Type 0) (k : ℕ) (r : List ℕ) → All P r → All P (take k r) × All P (drop k r)

@@ -14,7 +14,7 @@ use Rattle.model.specs.Book.Syntax.{Clean, Counter, noCounter, limit, st
 use Rattle.model.specs.Machine.State.{Bindings}
 use Rattle.model.specs.Machine.Values.{bind, hold, laneOf, valueOf, cons?, valuesOf, listOf, find, Built, isStuck, isSpent, built, push, draw, handOut, write, build}
 use Rattle.model.specs.Check.{IsKnown, NotHeld, Below, entriesOf, currentsOf, against}
-use Rattle.model.specs.Claims.Demand3.{CleanConst, CounterOk}
+use Rattle.model.specs.Laws.Supposed.{CleanConst, CounterOk}
 use Rattle.model.specs.Laws.Logic.{some-inj, none-some, only-T, only-some, found-ind, All-append, All-at, All-getD, All-set, at-length, All-map}
 
 -- each live lane can read the variables K, and what it reads is clean

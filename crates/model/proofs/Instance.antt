@@ -13,10 +13,11 @@ use Rattle.model.specs.Machine.State.{Site, Env}
 use Rattle.model.specs.Machine.Steps.{run}
 use Rattle.model.specs.Machine.Functions.{arity, band, functions, apply, withFunctions}
 use Rattle.model.specs.Check.{check, checkInstr, sizesOf, readsOf, heldOf, columnsOf, bound?}
-use Rattle.model.specs.Claims.Demand3.{TableOk, RuleOk, Accepted, StepOk, Claims, CleanConst}
+use Rattle.model.specs.Claims.Demand3.{StepOk, Claims}
+use Rattle.model.specs.Laws.Supposed.{TableOk, RuleOk, Accepted, CleanConst}
 use Rattle.model.specs.Laws.Logic.{some-inj, none-some, only-some, All-getD}
 use Rattle.model.proofs.CheckExact.{check→conditions}
-use Rattle.model.proofs.Run.{demand3}
+use Rattle.model.proofs.Run.{demand-read}
 
 abbrev Fine : (ℕ → ℕ → Option ℕ) → Type 0
 Fine g = (a b w : ℕ) → Clean a → Clean b → g a b ≡ some w → Clean w
@@ -91,5 +92,5 @@ K1-accepted = record {
 }
 
 -- and so the five claims hold of it with any steps that fit
-K1-claims : (steps : List Step) → All (StepOk K1) steps → Claims K1 (run K1 (100 ∷ []) steps (length steps))
-K1-claims steps ok = demand3 K1 (100 ∷ []) steps K1-accepted ok (length steps)
+K1-claims : (steps : List Step) → All (StepOk (K1 .tables) (K1 .rules)) steps → Claims K1 (run K1 (100 ∷ []) steps (length steps))
+K1-claims steps ok = demand-read K1 (100 ∷ []) steps K1-accepted ok (length steps)

@@ -13,7 +13,8 @@ use Rattle.model.specs.Basics.{All, AllPairs}
 use Rattle.model.specs.Book.Syntax.{Clean, Counter, tableAt}
 use Rattle.model.specs.Machine.State.{State, Site, Record, recordSize, Event, mask, reads, took, asks, Status, going, stuck, isGoing, Bindings, Env, stop, note, give, lose, withCounters, logged, frame}
 use Rattle.model.specs.Machine.Steps.{here}
-use Rattle.model.specs.Claims.Demand3.{Within, NoReturn, NotStale, OneRow, OtherSite, CounterOk}
+use Rattle.model.specs.Claims.Demand3.{Within, NoReturn, NotStale, OneRow, OtherSite}
+use Rattle.model.specs.Laws.Supposed.{CounterOk}
 use Rattle.model.specs.Laws.Logic.{All-map, All-append, All-all, AllPairs-snoc, some-inj, none-some, either, nil-cons, le-cases}
 use Rattle.model.proofs.Rows.{rowsOf, Steady}
 use Rattle.model.proofs.Fetch.{Readable}

@@ -15,7 +15,8 @@ use Rattle.model.specs.Machine.State.{State, Site, Record, recordSize, r
 use Rattle.model.specs.Machine.Values.{hold, valueOf, valuesOf, listOf, find, isRow, predictedRows, Built, isStuck, isSpent, built, build}
 use Rattle.model.specs.Machine.Steps.{here, tableOf, stage, stageNew, rowStart, predictRow, takeColumn, lookup, invoke, takeDefault, serveMissed, stageList, readPair, anyNe, assertAnyNe}
 use Rattle.model.specs.Check.{IsKnown, NotHeld, Below, entriesOf, currentsOf}
-use Rattle.model.specs.Claims.Demand3.{TableOk, CleanConst, Within}
+use Rattle.model.specs.Claims.Demand3.{Within}
+use Rattle.model.specs.Laws.Supposed.{TableOk, CleanConst}
 use Rattle.model.specs.Laws.Logic.{and-T, some-inj, none-some, found-ind, when-ind, only-T, All-map, All-at, All-getD, either, nil-cons, All-zip}
 use Rattle.model.proofs.Rows.{rowsOf, Steady, steady-other, new-row, steady-row}
 use Rattle.model.proofs.Fetch.{Readable, Reads1, Reads, entry-read, entries-read, list-read, But, hold-read, held-known, find-All, cell, BuiltOk, build-ok}

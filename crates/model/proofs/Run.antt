@@ -16,7 +16,8 @@ use Rattle.model.specs.Machine.Values.{bind, laneOf, find, Built, built,
 use Rattle.model.specs.Machine.Steps.{here, tableOf, clear, orStale, bindOut, anyLive, finish, instruction, body, allLive, begin, instructions, end, rowStart, predictRow, predict, step, fresh, run}
 use Rattle.model.specs.Check.{Sound, readsOf, IsKnown, Below, entriesOf, currentsOf, Known}
 use Rattle.model.specs.Commit.{commit}
-use Rattle.model.specs.Claims.Demand3.{TableOk, CleanConst, CounterOk, RuleOk, Accepted, Given, StepOk, Within, NoReturn, NotStale, OneRow, OtherSite, Claims, Demand3}
+use Rattle.model.specs.Claims.Demand3.{Given, StepOk, Within, NoReturn, NotStale, OneRow, OtherSite, Claims}
+use Rattle.model.specs.Laws.Supposed.{TableOk, CleanConst, CounterOk, RuleOk, Accepted, DemandRead}
 use Rattle.model.specs.Laws.Logic.{and-T, T-and, or-l, or-r, some-inj, none-some, found-ind, when-ind, only-T, All-map, All-at, All-getD, All-all, at-length, either, T-cases, when-cases}
 use Rattle.model.proofs.CheckExact.{known-cases}
 use Rattle.model.proofs.Rows.{rowsOf}
@@ -262,7 +263,7 @@ module _ (E : Env) where
 
     -- ## Steps
 
-    step-ok : (rok : All (RuleOk E) (E .rules)) (k : ℕ) (st : Step) (s : State) → StepOk E st → Between k s → Between (suc k) (step E k st s)
+    step-ok : (rok : All (RuleOk E) (E .rules)) (k : ℕ) (st : Step) (s : State) → StepOk (E .tables) (E .rules) st → Between k s → Between (suc k) (step E k st s)
     unfolding step
     step-ok rok k (batch r n columns) s h v =
         let R : Rule = ruleAt (E .rules) r in
@@ -279,7 +280,7 @@ module _ (E : Env) where
 going≢stuck : going ≢ stuck
 going≢stuck e = let z : _≡_ {A = ℕ} 0 1 = cc in omega arith
 
-run-ok : (E : Env) (cs : List Counter) (steps : List Step) → Accepted E cs → All (StepOk E) steps → (n : ℕ) → Between E n (run E cs steps n)
+run-ok : (E : Env) (cs : List Counter) (steps : List Step) → Accepted E cs → All (StepOk (E .tables) (E .rules)) steps → (n : ℕ) → Between E n (run E cs steps n)
 unfolding run
 run-ok E cs steps ac ok zero = record { unstuck = going≢stuck; counted = ac .counters; logs = record { clean = tt; sized = tt; apart = tt; earlier = tt; single = λ t key. omega arith }; clean = tt; oneRow = tt; noReturn = tt; past = tt }
 run-ok E cs steps ac ok (suc n) =
@@ -287,15 +288,15 @@ run-ok E cs steps ac ok (suc n) =
     let v : Between E n s = run-ok E cs steps ac ok n in
     when-cases (Between E (suc n)) (isGoing (s .status)) (λ s′. found (getElem? steps n) (λ st. step E n st s′) (λ _. s′)) s
     (λ g. found-ind (Between E (suc n)) (getElem? steps n) (λ st. step E n st s) (λ _. s)
-    (λ st e. step-ok E (ac .tables) (ac .functions) (ac .rules) n st s (All-at (StepOk E) steps n ok e) v)
+    (λ st e. step-ok E (ac .tables) (ac .functions) (ac .rules) n st s (All-at (StepOk (E .tables) (E .rules)) steps n ok e) v)
     (λ e. later E n s v))
     (λ t. later E n s v)
 
-pub demand3 : Demand3
-demand3 E cs steps ac ok n = claims E n (run E cs steps n) (run-ok E cs steps ac ok n)
+pub demand-read : DemandRead
+demand-read E cs steps ac ok n = claims E n (run E cs steps n) (run-ok E cs steps ac ok n)
 
 -- what is committed after a run is again as a book must have it, and so are the counters: the next run can rowStart from there
-pub run-commit : (E : Env) (cs : List Counter) (steps : List Step) → Accepted E cs → All (StepOk E) steps → (n : ℕ)
+pub run-commit : (E : Env) (cs : List Counter) (steps : List Step) → Accepted E cs → All (StepOk (E .tables) (E .rules)) steps → (n : ℕ)
     → All TableOk (commit (run E cs steps n .log) (E .tables) 0) × All CounterOk (run E cs steps n .counters)
 run-commit E cs steps ac ok n =
     let v : Between E n (run E cs steps n) = run-ok E cs steps ac ok n in

@@ -1,6 +1,7 @@
 pub mod Logic
 pub mod Lists
 pub mod Words
+pub mod Supposed
 pub mod Contents
 pub mod Rows
 pub mod Steps

@@ -5,5 +5,6 @@ pub mod Machine
 pub mod Commit
 pub mod Answer
 pub mod Outcome
+pub mod Printed
 pub mod Claims
 pub mod Laws

@@ -87,24 +87,24 @@ endRefusal l p ts s =
     unless (leb (rowWords ts) (l .tables)) 15 0 else λ _.
     unless (leb (length (answer ts s)) (l .answer)) 16 0
 
-unfoldable pub concluded : Lent → ℕ → List Table → State → Outcome
-concluded l p ts s = found (endRefusal l p ts s) refused (λ _. accepted (answer ts s))
+module _ (l : Lent) (book : List ℕ) where
+  -- what is left after the run, and the tables after the commit
+  abbrev pub left : State
+  left = ran (wordsOf book) l
 
-unfoldable pub finished : Lent → List ℕ → State → Outcome
-finished l w s = concluded l (firstStep w) (committedBy w s) s
+  abbrev pub committed : List Table
+  committed = committedBy (wordsOf book) left
 
--- 14, 1, 2, the bodies, the rules, 11, the run, 15, 16
-unfoldable pub outcome : Lent → List ℕ → Outcome
-outcome l book =
-    found (lentRefusal l else λ _. bookRefusal book) refused
-    (λ _. finished l (wordsOf book) (ran (wordsOf book) l))
+  -- 14, 1, 2, the bodies, the rules, 11, the run, 15, 16
+  unfoldable pub refusal : Option Refusal
+  refusal = lentRefusal l else λ _. bookRefusal book else λ _. endRefusal l (firstStep (wordsOf book)) committed left
+
+  unfoldable pub outcome : Outcome
+  outcome = found refusal refused (λ _. accepted (answer committed left))
 
 -- ## What a call may return
 -- The order of the rows in a table is left open: the rows are the committed ones, each once.
 
 abbrev pub Permitted : Lent → List ℕ → Outcome → Type 0
 Permitted l book (refused r) = outcome l book ≡ refused r
-Permitted l book (accepted ws) =
-    let w = wordsOf book in
-    let s = ran w l in
-    (us : List Table) × Arranged (committedBy w s) us × (ws ≡ answer us s) × (outcome l book ≡ accepted (answer (committedBy w s) s))
+Permitted l book (accepted ws) = (us : List Table) × Arranged (committed l book) us × (ws ≡ answer us (left l book)) × (outcome l book ≡ accepted (answer (committed l book) (left l book)))

@@ -5,8 +5,7 @@ use mathlib.Core.Option.{Option, none, some}
 use mathlib.Core.List.{List, [], _∷_}
 use lib.Dec.{eqb, ltb, leb}
 use lib.ListN.{length, getD}
-use Rattle.model.specs.Basics.{found}
-use Rattle.model.specs.Basics.{least, howMany}
+use Rattle.model.specs.Basics.{found, _else_, least, howMany}
 use Rattle.model.specs.Book.Words.{Refusal, unless}
 
 -- kinds never fall, except that 4 and 5 alternate freely: the groups never fall. 0 is no kind
@@ -62,7 +61,7 @@ module _ (w : List ℕ) where
   -- 2: 0 for the count or contents past the book; then entries; then 0 for the book's end
   unfoldable pub contentsRefusal : Option Refusal
   contentsRefusal =
-      found (unless countFits 2 0) some λ _.
+      unless countFits 2 0 else λ _.
       found (least (λ i. not (entryFits i)) count) (λ i. some (record { number = 2; place = i })) λ _.
       unless (eqb (begins count) (length w)) 2 0
 

@@ -5,10 +5,9 @@ use mathlib.Core.Option.{Option, none, some}
 use mathlib.Core.List.{List, [], _∷_}
 use lib.Dec.{eqb, ltb, leb}
 use lib.ListN.{length, getD, take}
-use Rattle.model.specs.Basics.{found}
+use Rattle.model.specs.Basics.{found, _else_, firstSome, least, tab}
 use Rattle.model.specs.Book.Syntax.{Counter, Table, width, Rule, Step, batch, prediction, tableAt, ruleAt}
 use Rattle.model.specs.Machine.Values.{find}
-use Rattle.model.specs.Basics.{firstSome, least, tab}
 use Rattle.model.specs.Book.Words.{Refusal, unless}
 use Rattle.model.specs.Book.Contents.{count, kindOf, firstOf, endOf, tableCount, counterCount, ruleCount, stepCount, firstRule, firstStep}
 use Rattle.model.specs.Book.Scan.{Scan, bad, good, Sizes, scan}
@@ -57,9 +56,9 @@ module _ (w : List ℕ) where
   -- each 3, 6, 4, 5
   unfoldable pub bodyRefusal : ℕ → Option Refusal
   bodyRefusal i =
-      found (drew3 i (walk i)) some λ _.
-      found (drew6 (walk i)) some λ _.
-      found (drew4 (walk i)) some λ _.
+      drew3 i (walk i) else λ _.
+      drew6 (walk i) else λ _.
+      drew4 (walk i) else λ _.
       elim (eqb (kindOf w i) 1) [ true ↦ rowsRefusal (firstOf w i) | false ↦ none ]
 
   unfoldable pub bodiesRefusal : Option Refusal

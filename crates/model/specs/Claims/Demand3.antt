@@ -1,47 +1,31 @@
--- Demand 3: what is supposed of a book, its functions and the steps, and what then holds of every run.
-use Prim.Native.Nat.{ℕ, _+_, _≤_, _<_}
+-- Demand 3: for every book that draws none of refusals 1 to 11, whatever the functions answer, and every list of steps with which that stays so.
+use Prim.Native.Nat.{ℕ, _+_, _<_}
 use mathlib.Core.Path.{_≡_}
 use mathlib.Core.Logic.{_≢_}
 use mathlib.Core.Bool.{Bool, false}
-use mathlib.Core.Option.{Option, some}
+use mathlib.Core.Option.{Option, none, some}
 use mathlib.Core.List.{List, [], _∷_}
 use lib.Dec.{T}
-use lib.ListN.{length, getD, getElem?, take}
+use lib.ListN.{length, getD}
 use Rattle.model.specs.Basics.{All, AllPairs}
-use Rattle.model.specs.Book.Syntax.{Clean, Counter, nextOf, limit, QueryEntry, Var, Const, WriteVal, Entry, IncCounter, CurrentVal, Instr, Table, width, Rule, Step, batch, prediction, tableAt, ruleAt}
-use Rattle.model.specs.Machine.State.{State, Site, Record, Event, mask, reads, took, asks, Status, stuck, Env}
+use Rattle.model.specs.Book.Syntax.{Clean, Var, Const, WriteVal, Entry, IncCounter, CurrentVal, Table, width, Rule, Step, batch, prediction, tableAt, ruleAt}
+use Rattle.model.specs.Book.Words.{Byte, wordsOf}
+use Rattle.model.specs.Book.Read.{tables, counters, rules, steps}
+use Rattle.model.specs.Machine.State.{State, Site, Record, Event, mask, reads, took, asks, stuck, Env}
 use Rattle.model.specs.Machine.Values.{predictedRows}
+use Rattle.model.specs.Machine.Functions.{arity}
 use Rattle.model.specs.Machine.Steps.{run}
-use Rattle.model.specs.Check.{readsOf, Conditions}
+use Rattle.model.specs.Outcome.{bookRefusal}
 
--- ## What is supposed
+-- ## What is supposed of the functions and of the steps
 
--- refusals 3, 4 and 5 of a table
-pub record TableOk (t : Table) : Type 0 where
-  pub sized : All (λ r. length r ≡ width t) (t .rows)
-  pub clean : All (All Clean) (t .rows)
-  pub distinct : AllPairs (λ a b. take (t .keys) a ≢ take (t .keys) b) (t .rows)
+-- what a function answers at a site and call; it may answer otherwise on equal arguments
+abbrev pub Answers : Type 0
+Answers = Site → (call func : ℕ) (args : List ℕ) → Option ℕ
 
--- refusal 4 of a rule's constants
-abbrev pub CleanConst : QueryEntry → Type 0
-CleanConst (Var v) = Unit {0}
-CleanConst (Const c) = Clean c
-
--- a rule that can be read and passes the check
-pub record RuleOk (E : Env) (r : Rule) : Type 0 where
-  pub consts : (j : ℕ) (ins : Instr) → getElem? (r .instrs) j ≡ some ins → All CleanConst (readsOf ins)
-  pub conditions : Conditions (E .tables) (E .arity) r
-
--- refusal 4 of a counter
-abbrev pub CounterOk : Counter → Type 0
-CounterOk n = nextOf n ≤ limit
-
--- and what is supposed of a function: none, or a word other than the stale mark
-pub record Accepted (E : Env) (cs : List Counter) : Type 0 where
-  pub tables : All TableOk (E .tables)
-  pub rules : All (RuleOk E) (E .rules)
-  pub counters : All CounterOk cs
-  pub functions : (o : Site) (invoke func : ℕ) (args : List ℕ) (w : ℕ) → All Clean args → E .answer o invoke func args ≡ some w → Clean w
+-- none, or a word other than the stale mark
+abbrev pub NeverStale : Answers → Type 0
+NeverStale answer = (o : Site) (call func : ℕ) (args : List ℕ) (w : ℕ) → All Clean args → answer o call func args ≡ some w → Clean w
 
 -- a prediction's write values: constants and counters
 abbrev pub Given : WriteVal → Type 0
@@ -50,19 +34,19 @@ Given (Entry (Const c)) = Clean c
 Given (IncCounter c) = Unit {0}
 Given (CurrentVal x) = ⊥
 
--- refusals 3, 6, 4 and 11 of a step
-abbrev pub StepOk : Env → Step → Type 0
-StepOk E (batch r n columns) = record {
-  rule : r < length (E .rules);
-  count : length columns ≡ ruleAt (E .rules) r .starts;
+-- a step with which a book draws none of refusals 3, 6, 4 and 11. What they ask beyond this (the limits on lanes, key words and write values, that a counter is there), and 2's limit on the number of steps, is not needed
+abbrev pub StepOk : List Table → List Rule → Step → Type 0
+StepOk ts rs (batch r n columns) = record {
+  rule : r < length rs;
+  count : length columns ≡ ruleAt rs r .starts;
   sized : All (λ c. length c ≡ n) columns;
   clean : All (All Clean) columns;
-  none : ruleAt (E .rules) r .starts ≡ 0 → n ≡ 0;
+  none : ruleAt rs r .starts ≡ 0 → n ≡ 0;
 }
-StepOk E (prediction t key vs) = record {
-  table : t < length (E .tables);
-  keys : length key ≡ tableAt (E .tables) t .keys;
-  vals : length key + length vs ≡ width (tableAt (E .tables) t);
+StepOk ts rs (prediction t key vs) = record {
+  table : t < length ts;
+  keys : length key ≡ tableAt ts t .keys;
+  vals : length key + length vs ≡ width (tableAt ts t);
   clean : All Clean key;
   given : All Given vs;
 }
@@ -97,6 +81,7 @@ OneRow E log (reads o ws) = Unit {0}
 OneRow E log (took o ws) = Unit {0}
 OneRow E log (asks o t key ws) = predictedRows (tableAt (E .tables) t .keys) t key log ≡ ws ∷ []
 
+-- staged by another lane, instruction or step
 abbrev pub OtherSite : Record → Record → Type 0
 OtherSite a b = a .site ≢ b .site
 
@@ -107,6 +92,19 @@ pub record Claims (E : Env) (s : State) : Type 0 where
   pub staged-once : AllPairs OtherSite (s .log)
   pub one-row : All (OneRow E (s .log)) (s .trace)
 
+-- ## The claims
+
+-- the machine on a book's tables and rules, with any functions of their arity and any room for the log; a log without end is the room that is always there
+abbrev pub machine : List ℕ → Answers → (ℕ → Bool) → Env
+machine book answer room = record { tables = tables (wordsOf book); rules = rules (wordsOf book); arity = arity; answer = answer; room = room }
+
 -- one claim over a whole list of steps, and over what each of its beginnings leaves
 abbrev pub Demand3 : Type 0
-Demand3 = (E : Env) (counters : List Counter) (steps : List Step) → Accepted E counters → All (StepOk E) steps → (n : ℕ) → Claims E (run E counters steps n)
+Demand3 = (book : List ℕ) → All Byte book → bookRefusal book ≡ none
+    → (answer : Answers) → NeverStale answer → (room : ℕ → Bool)
+    → (list : List Step) → All (StepOk (tables (wordsOf book)) (rules (wordsOf book))) list
+    → (n : ℕ) → Claims (machine book answer room) (run (machine book answer room) (counters (wordsOf book)) list n)
+
+-- a book's own steps are such a list
+abbrev pub OwnSteps : Type 0
+OwnSteps = (book : List ℕ) → All Byte book → bookRefusal book ≡ none → All (StepOk (tables (wordsOf book)) (rules (wordsOf book))) (steps (wordsOf book))

@@ -2,21 +2,21 @@
 use Prim.Native.Nat.{ℕ, suc, _+_, _*_, _%_, _≤_, _<_}
 use mathlib.Core.Path.{_≡_}
 use mathlib.Core.Logic.{_⊎_, _≢_, _↔_}
-use mathlib.Core.Bool.{true}
+use mathlib.Core.Bool.{true, false}
 use mathlib.Core.Option.{Option, none, some}
 use mathlib.Core.List.{List, [], _∷_, _++_, map}
 use lib.ListN.{length, getD, getElem?, take}
-use Rattle.model.specs.Basics.{All}
-use Rattle.model.specs.Book.Syntax.{Counter, noCounter, nextOf, limit, WriteVal, IncCounter, Instr, Table, width, Rule, Step, batch, prediction, tableAt, ruleAt}
+use Rattle.model.specs.Basics.{All, first}
+use Rattle.model.specs.Book.Syntax.{Counter, noCounter, nextOf, limit, QueryEntry, WriteVal, IncCounter, Instr, LookupOrInsertDefault, Table, width, Rule, Step, batch, prediction, tableAt, ruleAt}
 use Rattle.model.specs.Book.Words.{Refusal, Byte, wordsOf}
 use Rattle.model.specs.Book.Contents.{count, kindOf, groupOf, firstOf, lengthOf, members, most, begins, lastGroup, ruleCount, stepCount, firstStep}
 use Rattle.model.specs.Book.Decode.{part, readTable, readRule, rowPlace, instrPlace}
 use Rattle.model.specs.Book.Read.{sizes, tables, counters, rules, step, steps}
 use Rattle.model.specs.Check.{readsOf, heldOf, sizesOf, columnsOf, Fits, IsKnown, NotHeld, Below, Known}
-use Rattle.model.specs.Machine.State.{State, going, spent, Bindings, logWords}
-use Rattle.model.specs.Machine.Values.{built, build}
+use Rattle.model.specs.Machine.State.{State, reads, going, spent, Bindings, logWords}
+use Rattle.model.specs.Machine.Values.{hold, valuesOf, find, predictedRows, built, build}
 use Rattle.model.specs.Machine.Functions.{arity}
-use Rattle.model.specs.Machine.Steps.{run}
+use Rattle.model.specs.Machine.Steps.{here, run}
 use Rattle.model.specs.Answer.{answer, rowWords}
 use Rattle.model.specs.Outcome.{Lent, Outcome, refused, accepted, outcome, ruleFirst, envOf, committedBy}
 use Rattle.model.specs.Claims.Grammar.{Word, Missing, Stale, BodyForm}
@@ -84,106 +84,147 @@ final w = committedBy w (after w (stepCount w))
 
 -- ## What can be at fault
 
+pub data InContents : Type 0 where
+  counting ending : InContents
+  entry : (i : ℕ) → InContents
+
+pub data InBody : Type 0 where
+  layout : InBody
+  absent mark : (p : ℕ) → InBody
+  repeat : (row : ℕ) → InBody
+
+pub data InRule : Type 0 where
+  size unbound heldOut column : InRule
+
+pub data InRun : Type 0 where
+  logFull counterSpent : InRun
+
 pub data Fault : Type 0 where
   lengths bytes : Fault
-  contents ending : Fault
-  entry : (i : ℕ) → Fault
-  layout : (i : ℕ) → Fault
-  absent mark repeat : (i p : ℕ) → Fault
-  size unbound heldOut column : (r j : ℕ) → Fault
+  contents : InContents → Fault
+  body : (i : ℕ) → InBody → Fault
+  rule : (r j : ℕ) → InRule → Fault
   unfit : (k : ℕ) → Fault
-  logFull counterSpent : (k : ℕ) → Fault
+  inRun : (k : ℕ) → InRun → Fault
   tablesFull answerFull : Fault
 
 -- its number in the table
 abbrev pub numberOf : Fault → ℕ
 numberOf lengths = 14
 numberOf bytes = 1
-numberOf contents = 2
-numberOf (entry i) = 2
-numberOf ending = 2
-numberOf (layout i) = 3
-numberOf (absent i p) = 6
-numberOf (mark i p) = 4
-numberOf (repeat i r) = 5
-numberOf (size r j) = 8
-numberOf (unbound r j) = 7
-numberOf (heldOut r j) = 10
-numberOf (column r j) = 9
+numberOf (contents c) = 2
+numberOf (body i layout) = 3
+numberOf (body i (absent p)) = 6
+numberOf (body i (mark p)) = 4
+numberOf (body i (repeat row)) = 5
+numberOf (rule r j size) = 8
+numberOf (rule r j unbound) = 7
+numberOf (rule r j heldOut) = 10
+numberOf (rule r j column) = 9
 numberOf (unfit k) = 11
-numberOf (logFull k) = 12
-numberOf (counterSpent k) = 13
+numberOf (inRun k logFull) = 12
+numberOf (inRun k counterSpent) = 13
 numberOf tablesFull = 15
 numberOf answerFull = 16
 
-module _ (w : List ℕ) where
-  -- its place: entries and bodies by their position in the contents; words, rows and instructions by the book word they start at
-  abbrev pub placeOf : Fault → ℕ
-  placeOf lengths = 0
-  placeOf bytes = 0
-  placeOf contents = 0
-  placeOf (entry i) = i
-  placeOf ending = 0
-  placeOf (layout i) = i
-  placeOf (absent i p) = p
-  placeOf (mark i p) = p
-  placeOf (repeat i r) = rowPlace w (firstOf w i) r
-  placeOf (size r j) = instrPlace w (ruleFirst w r) j
-  placeOf (unbound r j) = instrPlace w (ruleFirst w r) j
-  placeOf (heldOut r j) = instrPlace w (ruleFirst w r) j
-  placeOf (column r j) = instrPlace w (ruleFirst w r) j
-  placeOf (unfit k) = firstStep w + k
-  placeOf (logFull k) = firstStep w + k
-  placeOf (counterSpent k) = firstStep w + k
-  placeOf tablesFull = 0
-  placeOf answerFull = 0
+-- its place: entries and bodies by their position in the contents; words, rows and instructions by the book word they start at
+abbrev pub placeOf : List ℕ → Fault → ℕ
+placeOf w lengths = 0
+placeOf w bytes = 0
+placeOf w (contents counting) = 0
+placeOf w (contents ending) = 0
+placeOf w (contents (entry i)) = i
+placeOf w (body i layout) = i
+placeOf w (body i (absent p)) = p
+placeOf w (body i (mark p)) = p
+placeOf w (body i (repeat row)) = rowPlace w (firstOf w i) row
+placeOf w (rule r j c) = instrPlace w (ruleFirst w r) j
+placeOf w (unfit k) = firstStep w + k
+placeOf w (inRun k c) = firstStep w + k
+placeOf w tablesFull = 0
+placeOf w answerFull = 0
 
 -- when it is at fault
+abbrev pub AtContents : List ℕ → InContents → Type 0
+AtContents w counting = CountOk w → ⊥
+AtContents w ending = EndOk w → ⊥
+AtContents w (entry i) = (i < count w) × (EntryOk w i → ⊥)
+
+abbrev pub AtBody : List ℕ → ℕ → InBody → Type 0
+AtBody w i layout = (ms : List Word) → LaidOut w i ms → ⊥
+AtBody w i (absent p) = WordAt w Missing i p
+AtBody w i (mark p) = WordAt w Stale i p
+AtBody w i (repeat row) =
+    let t = readTable w (firstOf w i) in
+    (kindOf w i ≡ 1) × (row < length (t .rows)) × Repeats (t .keys) (t .rows) row
+
+abbrev pub AtRule : List ℕ → (r j : ℕ) → InRule → Type 0
+AtRule w r j size = InstrAt w (λ R j ins. All Fits (sizesOf (tables w) arity ins) → ⊥) r j
+AtRule w r j unbound = InstrAt w (λ R j ins. All (IsKnown (Known R j)) (readsOf ins) → ⊥) r j
+AtRule w r j heldOut = InstrAt w (λ R j ins. All NotHeld (heldOf ins) → ⊥) r j
+AtRule w r j column = InstrAt w (λ R j ins. All Below (columnsOf (tables w) arity ins) → ⊥) r j
+
+-- the records of the steps before fit the log lent, and with those of step k they pass it; step k comes to a counter whose next would pass its limit, and the records until then fit
+abbrev pub AtRun : Lent → List ℕ → ℕ → InRun → Type 0
+AtRun l w k logFull = (logWords (after w k .log) ≤ l .log) × (l .log < logWords (after w (suc k) .log))
+AtRun l w k counterSpent = (logWords (after w (suc k) .log) ≤ l .log) × (after w (suc k) .status ≡ spent)
+
 abbrev pub AtFault : Lent → List ℕ → Fault → Type 0
 AtFault l book lengths = LentOk l → ⊥
 AtFault l book bytes = BytesOk book → ⊥
-AtFault l book contents = CountOk (wordsOf book) → ⊥
-AtFault l book (entry i) = (i < count (wordsOf book)) × (EntryOk (wordsOf book) i → ⊥)
-AtFault l book ending = EndOk (wordsOf book) → ⊥
-AtFault l book (layout i) = (i < count (wordsOf book)) × ((ms : List Word) → LaidOut (wordsOf book) i ms → ⊥)
-AtFault l book (absent i p) = (i < count (wordsOf book)) × WordAt (wordsOf book) Missing i p
-AtFault l book (mark i p) = (i < count (wordsOf book)) × WordAt (wordsOf book) Stale i p
-AtFault l book (repeat i r) =
-    let t = readTable (wordsOf book) (firstOf (wordsOf book) i) in
-    (i < count (wordsOf book)) × (kindOf (wordsOf book) i ≡ 1) × (r < length (t .rows)) × Repeats (t .keys) (t .rows) r
-AtFault l book (size r j) = InstrAt (wordsOf book) (λ rule j ins. All Fits (sizesOf (tables (wordsOf book)) arity ins) → ⊥) r j
-AtFault l book (unbound r j) = InstrAt (wordsOf book) (λ rule j ins. All (IsKnown (Known rule j)) (readsOf ins) → ⊥) r j
-AtFault l book (heldOut r j) = InstrAt (wordsOf book) (λ rule j ins. All NotHeld (heldOf ins) → ⊥) r j
-AtFault l book (column r j) = InstrAt (wordsOf book) (λ rule j ins. All Below (columnsOf (tables (wordsOf book)) arity ins) → ⊥) r j
+AtFault l book (contents c) = AtContents (wordsOf book) c
+AtFault l book (body i c) = (i < count (wordsOf book)) × AtBody (wordsOf book) i c
+AtFault l book (rule r j c) = AtRule (wordsOf book) r j c
 AtFault l book (unfit k) = (k < stepCount (wordsOf book)) × (StepFits (tables (wordsOf book)) (rules (wordsOf book)) (step (wordsOf book) k) → ⊥)
--- the records of the steps before fit the log; with the next record of step k they would pass it
-AtFault l book (logFull k) = (k < stepCount (wordsOf book)) × (after (wordsOf book) k .status ≡ going) × (logWords (after (wordsOf book) k .log) ≤ l .log) × (l .log < logWords (after (wordsOf book) (suc k) .log))
--- step k comes to a counter whose next would pass its limit, and the records until then fit the log
-AtFault l book (counterSpent k) = (k < stepCount (wordsOf book)) × (after (wordsOf book) k .status ≡ going) × (after (wordsOf book) (suc k) .status ≡ spent) × (logWords (after (wordsOf book) (suc k) .log) ≤ l .log)
+AtFault l book (inRun k c) = (k < stepCount (wordsOf book)) × (after (wordsOf book) k .status ≡ going) × AtRun l (wordsOf book) k c
 AtFault l book tablesFull = l .tables < rowWords (final (wordsOf book))
 AtFault l book answerFull = l .answer < length (answer (final (wordsOf book)) (after (wordsOf book) (stepCount (wordsOf book))))
 
 -- ## The order: 14, 1, 2; then bodies, each 3, 6, 4, 5; then rules by instruction, each 8, 7, 10, 9; then 11; then the run, 12 or 13; 15; 16
 
-abbrev pub rank : Fault → List ℕ
-rank lengths = 0 ∷ []
-rank bytes = 1 ∷ []
-rank contents = 2 ∷ 0 ∷ []
-rank (entry i) = 2 ∷ 1 ∷ i ∷ []
-rank ending = 2 ∷ 2 ∷ []
-rank (layout i) = 3 ∷ i ∷ 0 ∷ []
-rank (absent i p) = 3 ∷ i ∷ 1 ∷ p ∷ []
-rank (mark i p) = 3 ∷ i ∷ 2 ∷ p ∷ []
-rank (repeat i r) = 3 ∷ i ∷ 3 ∷ r ∷ []
-rank (size r j) = 4 ∷ r ∷ j ∷ 0 ∷ []
-rank (unbound r j) = 4 ∷ r ∷ j ∷ 1 ∷ []
-rank (heldOut r j) = 4 ∷ r ∷ j ∷ 2 ∷ []
-rank (column r j) = 4 ∷ r ∷ j ∷ 3 ∷ []
-rank (unfit k) = 5 ∷ k ∷ []
-rank (logFull k) = 6 ∷ k ∷ 0 ∷ []
-rank (counterSpent k) = 6 ∷ k ∷ 1 ∷ []
-rank tablesFull = 7 ∷ []
-rank answerFull = 8 ∷ []
+abbrev pub stageOf : Fault → ℕ
+stageOf lengths = 0
+stageOf bytes = 1
+stageOf (contents c) = 2
+stageOf (body i c) = 3
+stageOf (rule r j c) = 4
+stageOf (unfit k) = 5
+stageOf (inRun k c) = 6
+stageOf tablesFull = 7
+stageOf answerFull = 8
+
+abbrev pub contentsOrder : InContents → List ℕ
+contentsOrder counting = 0 ∷ []
+contentsOrder (entry i) = 1 ∷ i ∷ []
+contentsOrder ending = 2 ∷ []
+
+abbrev pub bodyOrder : InBody → List ℕ
+bodyOrder layout = 0 ∷ []
+bodyOrder (absent p) = 1 ∷ p ∷ []
+bodyOrder (mark p) = 2 ∷ p ∷ []
+bodyOrder (repeat row) = 3 ∷ row ∷ []
+
+abbrev pub ruleOrder : InRule → List ℕ
+ruleOrder size = 0 ∷ []
+ruleOrder unbound = 1 ∷ []
+ruleOrder heldOut = 2 ∷ []
+ruleOrder column = 3 ∷ []
+
+-- only one of them can hold of a step
+abbrev pub runOrder : InRun → List ℕ
+runOrder logFull = 0 ∷ []
+runOrder counterSpent = 1 ∷ []
+
+abbrev pub within : Fault → List ℕ
+within lengths = []
+within bytes = []
+within (contents c) = contentsOrder c
+within (body i c) = i ∷ bodyOrder c
+within (rule r j c) = r ∷ j ∷ ruleOrder c
+within (unfit k) = k ∷ []
+within (inRun k c) = k ∷ runOrder c
+within tablesFull = []
+within answerFull = []
 
 abbrev pub Before : List ℕ → List ℕ → Type 0
 Before [] [] = ⊥
@@ -192,7 +233,7 @@ Before (x ∷ xs) [] = ⊥
 Before (x ∷ xs) (y ∷ ys) = (x < y) ⊎ ((x ≡ y) × Before xs ys)
 
 abbrev pub Earlier : Fault → Fault → Type 0
-Earlier f g = Before (rank f) (rank g)
+Earlier f g = Before (stageOf f ∷ within f) (stageOf g ∷ within g)
 
 -- ## The claims
 
@@ -212,18 +253,29 @@ RefusalsExact = (l : Lent) (book : List ℕ) → All Byte book → (r : Refusal)
 abbrev pub AcceptedExact : Type 0
 AcceptedExact = (l : Lent) (book : List ℕ) → All Byte book → ((f : Fault) → AtFault l book f → ⊥) → outcome l book ≡ accepted (answer (final (wordsOf book)) (after (wordsOf book) (stepCount (wordsOf book))))
 
--- where the machine says that a counter is spent, it was building a row, and the counter's next would have passed its limit
-pub record Spends (s : State) : Type 0 where
-  pub bindings : Bindings
-  pub lane : ℕ
-  pub key : List ℕ
+-- ## A spent counter
+
+-- the write values of a row come to a counter whose next would pass its limit
+pub record Overdraws (b : Bindings) (i : ℕ) (key : List ℕ) (vs : List WriteVal) (cs : List Counter) : Type 0 where
   pub before : List WriteVal
   pub spender : ℕ
   pub behind : List WriteVal
+  pub values : vs ≡ before ++ (IncCounter spender ∷ behind)
   pub row : List ℕ
   pub counters : List Counter
-  pub built′ : build bindings lane before (built key (s .counters)) ≡ built row counters
+  pub reached : build b i before (built key cs) ≡ built row counters
   pub passes : limit < suc (nextOf (getD counters spender noCounter))
 
+-- step k stopped in s at a new row that overdraws a counter: a live lane's that last read its key, with dst held out, or a prediction's
+pub data Spends (ts : List Table) (rs : List Rule) (k : ℕ) (s : State) : Step → Type 0 where
+  byLane : {r n : ℕ} {columns : List (List ℕ)} (j i t : ℕ) (args : List QueryEntry) (vs : List WriteVal) (col dst : ℕ) (key : List ℕ)
+      → getElem? (ruleAt rs r .instrs) j ≡ some (LookupOrInsertDefault t args vs col dst) → getD (s .live) i false ≡ true
+      → valuesOf (hold dst (s .bindings)) i args ≡ some key → first (s .trace) ≡ some (reads (here k j i) key)
+      → predictedRows (tableAt ts t .keys) t key (s .log) ≡ [] → Overdraws (hold dst (s .bindings)) i key vs (s .counters) → Spends ts rs k s (batch r n columns)
+  byPrediction : {t : ℕ} {key : List ℕ} {vs : List WriteVal} → find (tableAt ts t .keys) (tableAt ts t .rows) key ≡ none
+      → predictedRows (tableAt ts t .keys) t key (s .log) ≡ [] → Overdraws (λ _. none) 0 key vs (s .counters) → Spends ts rs k s (prediction t key vs)
+
+-- where the machine says that a counter is spent, the step that it did not answer came to one
 abbrev pub SpentExact : Type 0
-SpentExact = (w : List ℕ) (k : ℕ) → after w k .status ≡ spent → Spends (after w k)
+SpentExact = (w : List ℕ) (k : ℕ) → after w k .status ≡ spent
+    → (st : Step) × (getElem? (steps w) (length (after w k .answers)) ≡ some st) × Spends (tables w) (rules w) (length (after w k .answers)) (after w k) st

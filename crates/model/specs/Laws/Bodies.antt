@@ -19,7 +19,7 @@ use Rattle.model.specs.Book.Decode.{part, entryOf, writeOf, entryAt, wri
 use Rattle.model.specs.Book.Read.{repeated}
 use Rattle.model.specs.Check.{readsOf, entriesOf}
 use Rattle.model.specs.Claims.Refusals.{Repeats}
-use Rattle.model.specs.Claims.Demand3.{TableOk, CleanConst}
+use Rattle.model.specs.Laws.Supposed.{TableOk, CleanConst}
 use Rattle.model.specs.Laws.Logic.{and-split, All-append, All-at, all-pairs}
 use Rattle.model.specs.Laws.Lists.{all-tab, length-tab, below-suc}
 use Rattle.model.specs.Laws.Rows.{repeated-none}

@@ -10,7 +10,6 @@ use lib.Dec.{eqb}
 use lib.ListN.{length, getD, getElem?, take}
 use Rattle.model.specs.Basics.{found, All, tab}
 use Rattle.model.specs.Book.Syntax.{stale, Clean, Counter, nextOf, limit, Const, WriteVal, Instr, Table, width, Rule, Step, batch, prediction, tableAt, ruleAt}
-use Rattle.model.specs.Machine.State.{Env}
 use Rattle.model.specs.Book.Words.{Refusal}
 use Rattle.model.specs.Book.Contents.{group, count, kindOf, groupOf, firstOf, endOf, contentsRefusal, tableCount, counterCount, ruleCount, stepCount, firstRule, firstStep}
 use Rattle.model.specs.Book.Scan.{fine, Scan, bad, good, Sizes, tag, tagged, scan, scanTable, scanCounter, scanRule, scanBatch, scanPrediction}
@@ -23,7 +22,8 @@ use Rattle.model.specs.Laws.Steps.{steps-ok}
 use Rattle.model.specs.Laws.Contents.{ContentsOk, contents-ok, Inside, inside, is-table, is-counter, is-rule, is-step}
 use Rattle.model.specs.Laws.Scan.{clean-fine, PairOk, BatchWords, PredictionWords, table-words, counter-words, rule-words, batch-words, prediction-words}
 use Rattle.model.specs.Check.{readsOf}
-use Rattle.model.specs.Claims.Demand3.{TableOk, CleanConst, CounterOk, Given, StepOk}
+use Rattle.model.specs.Claims.Demand3.{Given, StepOk}
+use Rattle.model.specs.Laws.Supposed.{TableOk, CleanConst, CounterOk}
 use Rattle.model.specs.Laws.Bodies.{all-part, length-part, row-fits, not-stale, tag-fine, table-ok, rule-consts}
 
 -- nothing drawn
@@ -132,7 +132,7 @@ module _ (w : List ℕ) (words : (p : ℕ) → getD w p 0 < 4294967296) (noConte
   abbrev Consts : Rule → Type 0
   Consts r = (j : ℕ) (ins : Instr) → getElem? (r .instrs) j ≡ some ins → All CleanConst (readsOf ins)
 
-  rule-at : (r : ℕ) → r < ruleCount w → Consts (readRule w (firstOf w (firstRule w + r)))
+  pub rule-at : (r : ℕ) → r < ruleCount w → Consts (readRule w (firstOf w (firstRule w + r)))
   unfolding scan z
   rule-at r l =
       let i = firstRule w + r in
@@ -147,16 +147,16 @@ module _ (w : List ℕ) (words : (p : ℕ) → getD w p 0 < 4294967296) (noConte
 
   -- ## Steps
 
-  module _ (E : Env) (isTables : E .tables ≡ tables w) (isRules : E .rules ≡ rules w) (noSteps : stepsRefusal w ≡ none) where
-    ruleNumber : length (E .rules) ≡ ruleCount w
+  module _ (noSteps : stepsRefusal w ≡ none) where
+    ruleNumber : length (rules w) ≡ ruleCount w
     unfolding rules
-    ruleNumber = ap length isRules ∙ length-tab _ (ruleCount w)
+    ruleNumber = length-tab _ (ruleCount w)
 
-    tableNumber : length (E .tables) ≡ tableCount w
+    tableNumber : length (tables w) ≡ tableCount w
     unfolding tables
-    tableNumber = ap length isTables ∙ length-tab _ (tableCount w)
+    tableNumber = length-tab _ (tableCount w)
 
-    batch-ok : (end at : ℕ) → end ≤ length w → BatchWords z w end at → StepFits (E .tables) (E .rules) (readBatch w at) → StepOk E (readBatch w at)
+    batch-ok : (end at : ℕ) → end ≤ length w → BatchWords z w end at → StepFits (tables w) (rules w) (readBatch w at) → StepOk (tables w) (rules w) (readBatch w at)
     unfolding readBatch z
     batch-ok end at l b f = record {
       rule = omega (arith, b .rule, ruleNumber);
@@ -175,7 +175,7 @@ module _ (w : List ℕ) (words : (p : ℕ) → getD w p 0 < 4294967296) (noConte
     given-at end l (suc (suc zero)) q a b = tt
     given-at end l (suc (suc (suc t))) q a b = absurd (omega (arith, tag-fine 1 2 (suc (suc (suc t))) a .1))
 
-    prediction-ok : (end at : ℕ) → end ≤ length w → PredictionWords z w end at → StepFits (E .tables) (E .rules) (readPrediction w at) → StepOk E (readPrediction w at)
+    prediction-ok : (end at : ℕ) → end ≤ length w → PredictionWords z w end at → StepFits (tables w) (rules w) (readPrediction w at) → StepOk (tables w) (rules w) (readPrediction w at)
     unfolding readPrediction z
     prediction-ok end at l b f = record {
       table = omega (arith, b .table, tableNumber);
@@ -185,12 +185,12 @@ module _ (w : List ℕ) (words : (p : ℕ) → getD w p 0 < 4294967296) (noConte
       given = all-tab Given (λ k. writeAt w (at + 2 + getD w (at + 1) 0 + 1 + 2 * k)) (getD w (at + 2 + getD w (at + 1) 0) 0) (λ k q. given-at end l (getD w (at + 2 + getD w (at + 1) 0 + 1 + 2 * k) 0) (at + 2 + getD w (at + 1) 0 + 1 + 2 * k + 1) (b .writes k q .0) (b .writes k q .1));
     }
 
-    step-at : (k : ℕ) → k < stepCount w → StepOk E (step w k)
+    step-at : (k : ℕ) → k < stepCount w → StepOk (tables w) (rules w) (step w k)
     unfolding scan z readStep
     step-at k l = either
-        (λ e. subst (λ (m : ℕ). StepFits (E .tables) (E .rules) (readStep w m (firstOf w i)) → StepOk E (readStep w m (firstOf w i))) (sym e)
+        (λ e. subst (λ (m : ℕ). StepFits (tables w) (rules w) (readStep w m (firstOf w i)) → StepOk (tables w) (rules w) (readStep w m (firstOf w i))) (sym e)
         (batch-ok (endOf w i) (firstOf w i) (s .within) (batch-words z w (endOf w i) (firstOf w i) (s .after) (s .order) (as-kind i 4 (p .0) e .1))) fit)
-        (λ e. subst (λ (m : ℕ). StepFits (E .tables) (E .rules) (readStep w m (firstOf w i)) → StepOk E (readStep w m (firstOf w i))) (sym e)
+        (λ e. subst (λ (m : ℕ). StepFits (tables w) (rules w) (readStep w m (firstOf w i)) → StepOk (tables w) (rules w) (readStep w m (firstOf w i))) (sym e)
         (prediction-ok (endOf w i) (firstOf w i) (s .within) (prediction-words z w (endOf w i) (firstOf w i) (s .after) (s .order) (as-kind i 5 (p .0) e .1))) fit)
         (group-4 (kindOf w i) (p .1))
       where
@@ -203,9 +203,9 @@ module _ (w : List ℕ) (words : (p : ℕ) → getD w p 0 < 4294967296) (noConte
         s : Inside w ok (firstStep w + k)
         s = inside w ok (firstStep w + k) (p .0)
 
-        fit : StepFits (E .tables) (E .rules) (step w k)
-        fit = rw (isTables, isRules) (steps-ok w noSteps k l)
+        fit : StepFits (tables w) (rules w) (step w k)
+        fit = steps-ok w noSteps k l
 
-    pub steps-all-ok : All (StepOk E) (steps w)
+    pub steps-all-ok : All (StepOk (tables w) (rules w)) (steps w)
     unfolding steps
-    steps-all-ok = all-tab (StepOk E) (step w) (stepCount w) step-at
+    steps-all-ok = all-tab (StepOk (tables w) (rules w)) (step w) (stepCount w) step-at
