@@ -1,23 +1,23 @@
 -- Each instruction keeps the invariant, and gives a dst to each lane that stays live.
-use Prim.Native.Nat.{ℕ, zero, suc, _+_, _≤_, _<_}
+use Prim.Native.Nat.{ℕ, zero, suc, _<_}
 use native.Mathlib.Omega.{arith}
-use mathlib.Core.Path.{_≡_, refl, sym, ap, _∙_, subst}
-use mathlib.Core.Bool.{Bool, true, false, not}
+use mathlib.Core.Path.{_≡_, refl, sym, _∙_, subst}
+use mathlib.Core.Bool.{Bool, not}
 use mathlib.Core.Option.{Option, none, some}
 use mathlib.Core.List.{List, [], _∷_, _++_}
 use lib.Dec.{T, eqb}
 use lib.ListN.{length, getD, replicate, length-replicate, getD-replicate}
 use Rattle.model.specs.Basics.{when, All}
-use Rattle.model.specs.Book.Syntax.{Clean, noCounter, nextOf, QueryEntry, Instr, LookupOrInsertDefault, LookupWithDefault, Lookup, LookupWithFallback, Insert, InsertIfEq, Remove, External, ExternalWithFallback, AssertEq, AssertNe, AssertAnyNe, ReadCounter, dstOf, width, tableAt}
-use Rattle.model.specs.Machine.State.{State, Site, isGoing, Bindings, Env, lose, frame}
+use Rattle.model.specs.Book.Syntax.{Clean, noCounter, nextOf, QueryEntry, Instr, LookupOrInsertDefault, LookupWithDefault, Lookup, LookupWithFallback, Insert, InsertIfEq, Remove, External, ExternalWithFallback, AssertEq, AssertNe, AssertAnyNe, ReadCounter, dstOf, width}
+use Rattle.model.specs.Machine.State.{State, Site, isGoing, Env, lose}
 use Rattle.model.specs.Machine.Values.{hold}
-use Rattle.model.specs.Machine.Steps.{here, tableOf, lookup, invoke, takeDefault, serveMissed, stageList, readPair, assertAnyNe, lanes, missed, wait, plain, body}
-use Rattle.model.specs.Check.{Sound, sizesOf, readsOf, heldOf, columnsOf, IsKnown, NotHeld, entriesOf}
+use Rattle.model.specs.Machine.Steps.{here, tableOf, lookup, invoke, takeDefault, stageList, readPair, lanes, wait, plain, body}
+use Rattle.model.specs.Check.{Sound, sizesOf, readsOf, heldOf, columnsOf, IsKnown, entriesOf}
 use Rattle.model.specs.Laws.Supposed.{TableOk, CleanConst, CounterOk}
 use Rattle.model.specs.Laws.Logic.{none-some, when-ind, All-getD, All-left, All-right}
 use Rattle.model.proofs.Fetch.{But, hold-read, held-known}
 use Rattle.model.proofs.Inv.{Inv, weaken}
-use Rattle.model.proofs.Lanes.{Same, Lane, Done, Settled, HasDst, wait-lane, lose-done, live-below, look-ok, call-ok, default-ok, two-ok, any-ok, insert-ok, serve-ok}
+use Rattle.model.proofs.Lanes.{Same, Lane, Done, Settled, wait-lane, lose-done, live-below, look-ok, call-ok, default-ok, two-ok, any-ok, insert-ok, serve-ok}
 use Rattle.model.proofs.Passes.{lane-trans, lanes-quiet, lanes-done, missed-done, lanes-stage, missed-stage, Filling}
 
 some-below : (xs : List (Option ℕ)) (i : ℕ) {w : ℕ} → getD xs i none ≡ some w → i < length xs

@@ -1,27 +1,27 @@
 -- Refusals 3, 6, 4 and 5 of a body are exact.
-use Prim.Native.Nat.{ℕ, zero, suc, _+_, _≤_, _<_}
+use Prim.Native.Nat.{ℕ, zero, suc, _+_, _<_}
 use mathlib.Core.Path.{_≡_, refl, sym, ap, _∙_, subst}
 use mathlib.Core.Logic.{_⊎_, inl, inr}
 use mathlib.Core.Bool.{Bool, true, false, true≢false}
 use mathlib.Core.Option.{Option, none, some}
-use mathlib.Core.List.{List, [], _∷_, map}
+use mathlib.Core.List.{List, [], _∷_}
 use native.Mathlib.Omega.{arith}
 use lib.Dec.{eqb}
-use borrow.Author.Tests.{eqb-true, eqb-false, eq-eqb}
+use borrow.Author.Tests.{eqb-true, eqb-false}
 use lib.ListN.{length, getElem?, length-map}
-use Rattle.model.specs.Basics.{found, _else_}
+use Rattle.model.specs.Basics.{_else_}
 use Rattle.model.specs.Book.Words.{Refusal}
 use Rattle.model.specs.Book.Contents.{count, kindOf, firstOf, lengthOf, endOf}
-use Rattle.model.specs.Book.Scan.{Scan, bad, good}
+use Rattle.model.specs.Book.Scan.{good}
 use Rattle.model.specs.Book.Decode.{part, readTable, rowPlace}
-use Rattle.model.specs.Book.Read.{drew3, drew6, drew4, drewAt, repeated, rowsRefusal, sizes, walk, bodyRefusal}
+use Rattle.model.specs.Book.Read.{drew3, drew6, drew4, repeated, rowsRefusal, sizes, walk, bodyRefusal}
 use Rattle.model.specs.Claims.Grammar.{Word, Missing, Stale, BodyForm}
 use Rattle.model.specs.Claims.Refusals.{LaidOut, WordAt, Repeats, InBody, layout, absent, mark, repeat, AtBody, numberOf, placeOf, body, bodyOrder, Before}
 use Rattle.model.specs.Laws.Logic.{none-some, some-inj, seq-none, seq-some, either}
 use Rattle.model.specs.Laws.Bodies.{length-part}
 use Rattle.model.specs.Laws.Contents.{ContentsOk, Inside, inside}
 use Rattle.model.specs.Laws.Rows.{repeated-none, repeated-some}
-use Rattle.model.proofs.Parses.{pass, Fits, Parse, isBad, isGood}
+use Rattle.model.proofs.Parses.{Fits, Parse, isBad, isGood}
 use Rattle.model.proofs.BodyLayouts.{Ends, parse-body}
 use Rattle.model.proofs.Drawn.{isMissing, isStale, firstPlace, pass-draws, place-none, FirstAt, place-some, is-missing, missing-is, is-stale, stale-is, stands-part, part-stands}
 use Rattle.model.proofs.Exact.{Exact}

@@ -1,7 +1,7 @@
 -- The walk over each kind of body agrees with the grammar, and so with what stands in the book.
 use Prim.Native.Nat.{ℕ, zero, suc, _+_, _*_, _≤_, _<_}
 use mathlib.Core.Path.{_≡_, refl, sym, ap, _∙_, subst}
-use mathlib.Core.Bool.{Bool, true, false, true≢false}
+use mathlib.Core.Bool.{Bool, true, false}
 use mathlib.Core.List.{List, [], _∷_, _++_, map, append-nil, append-assoc}
 use native.Mathlib.Omega.{arith}
 use lib.Dec.{eqb, ltb}
@@ -11,8 +11,8 @@ use Rattle.model.specs.Basics.{iter}
 use Rattle.model.specs.Book.Scan.{Draw, Scan, bad, good, _▹_, require, Sizes, anyWord, below, upTo, clean, step, finish, left, word, list, block, pair, field, instr, scanTable, scanCounter, scanRule, scanBatch, scanPrediction, scan}
 use Rattle.model.specs.Claims.Grammar as grammar
 use Rattle.model.specs.Claims.Grammar.{Role, plain, oneOf, kept, Word, plainly, number, datum, Times, Pair, Listed, listed, InstrForm, BodyForm, tableBody, counterBody, ruleBody, batchBody, predictionBody}
-use Rattle.model.proofs.Parses.{Stands, Tells, Fits, Parse, isBad, isGood, parse-map, parse-none, parse-require, One, parse-word, Then, parse-then}
-use Rattle.model.proofs.Layouts.{Counted, Any, tells-role, tells-upTo, one-of, parse-times, parse-count, parse-pair, parse-instr}
+use Rattle.model.proofs.Parses.{Stands, Tells, Fits, Parse, isBad, parse-map, parse-require, One, parse-word, Then, parse-then}
+use Rattle.model.proofs.Layouts.{Counted, Any, tells-role, tells-upTo, parse-times, parse-count, parse-pair, parse-instr}
 
 assoc : (s : Scan) (f g : Scan → Scan) → s ▹ f ▹ g ≡ s ▹ (λ t. f t ▹ g)
 assoc bad f g = refl

@@ -1,19 +1,16 @@
 -- Demand 3 and the exactness of the check, for books.
-use Prim.Native.Nat.{ℕ, zero, suc, _+_, _≤_, _<_}
-use mathlib.Core.Path.{_≡_, refl, sym, ap, _∙_, subst}
-use mathlib.Core.Logic.{_↔_}
+use Prim.Native.Nat.{ℕ, _<_}
+use mathlib.Core.Path.{_≡_}
 use mathlib.Core.Bool.{Bool}
-use mathlib.Core.Option.{Option, none, some}
-use mathlib.Core.List.{List, [], _∷_}
-use lib.ListN.{length, getD, getElem?}
-use Rattle.model.specs.Basics.{found, _else_, firstSome, All, tab}
-use Rattle.model.specs.Book.Syntax.{Instr, Rule, Step}
-use Rattle.model.specs.Book.Words.{Refusal, Byte, wordsOf, bytesRefusal}
-use Rattle.model.specs.Book.Contents.{contentsRefusal, ruleCount, firstOf, firstRule}
-use Rattle.model.specs.Book.Decode.{readRule, instrPlace}
+use mathlib.Core.Option.{none}
+use mathlib.Core.List.{List}
+use lib.ListN.{length, getD}
+use Rattle.model.specs.Basics.{All}
+use Rattle.model.specs.Book.Words.{Byte, wordsOf, bytesRefusal}
+use Rattle.model.specs.Book.Contents.{contentsRefusal, ruleCount}
+use Rattle.model.specs.Book.Decode.{readRule}
 use Rattle.model.specs.Book.Read.{bodiesRefusal, tables, counters, rules, steps, stepsRefusal}
-use Rattle.model.specs.Check.{Conditions, check}
-use Rattle.model.specs.Machine.State.{Env}
+use Rattle.model.specs.Check.{check}
 use Rattle.model.specs.Machine.Functions.{arity}
 use Rattle.model.specs.Outcome.{ruleFirst, ruleRefusal, rulesRefusal, wordsRefusal, bookRefusal}
 use Rattle.model.specs.Claims.Demand3.{Answers, NeverStale, StepOk, machine, Demand3, OwnSteps}

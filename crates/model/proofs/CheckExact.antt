@@ -1,18 +1,18 @@
 -- The check passes a rule exactly when the four conditions hold.
-use Prim.Native.Nat.{ℕ, zero, suc, _+_, _≤_, _<_}
-use native.Mathlib.Nat.{not-suc-le-zero, le-of-suc-le-suc}
+use Prim.Native.Nat.{ℕ, zero, suc, _<_}
+use native.Mathlib.Nat.{not-suc-le-zero}
 use native.Mathlib.Omega.{arith}
-use mathlib.Core.Path.{_≡_, refl, sym, ap, _∙_, subst}
-use mathlib.Core.Logic.{_⊎_, inl, inr, _≢_, _↔_}
-use mathlib.Core.Bool.{Bool, true, false, _&&_, _||_, not}
+use mathlib.Core.Path.{_≡_, refl, sym, ap, subst}
+use mathlib.Core.Logic.{_⊎_, inl, inr, _↔_}
+use mathlib.Core.Bool.{Bool, true, false}
 use mathlib.Core.Option.{Option, none, some}
-use mathlib.Core.List.{List, [], _∷_, _++_}
-use lib.Dec.{T, eqb, ltb, leb, eqb→eq, eqb-refl, leb→le, le→leb, ltb→lt, lt→ltb, T-not, not-T}
+use mathlib.Core.List.{List, [], _∷_}
+use lib.Dec.{T, eqb, eqb→eq, eqb-refl, leb→le, le→leb, ltb→lt, lt→ltb, T-not, not-T}
 use lib.ListN.{length, getElem?}
-use Rattle.model.specs.Basics.{iter, found, all, All}
+use Rattle.model.specs.Basics.{found, all, All}
 use Rattle.model.specs.Book.Syntax.{QueryEntry, Var, Const, Instr, dstOf, Table, Rule}
 use Rattle.model.specs.Check.{Size, exactly, atLeast, readsOf, heldOf, sizesOf, columnsOf, Fits, IsKnown, NotHeld, Below, Sound, Known, Conditions, fits?, known?, isVar, free?, below?, refuse, checkInstr, isDst, bound?, check, checkAt, placed}
-use Rattle.model.specs.Laws.Logic.{and-T, T-and, or-T, or-l, or-r, some-inj, none-some, found-ind, at-below, either, le-cases}
+use Rattle.model.specs.Laws.Logic.{and-T, T-and, or-T, or-l, or-r, none-some, found-ind, at-below, either, le-cases}
 
 pub all→All : {A : Type 0} (P : A → Type 0) (f : A → Bool) → ((x : A) → T (f x) → P x) → (xs : List A) → T (all f xs) → All P xs
 all→All P f h [] t = tt

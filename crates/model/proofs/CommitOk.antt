@@ -1,19 +1,18 @@
 -- A commit leaves tables as a book must have them: rows of the right length, clean, with distinct keys.
-use Prim.Native.Nat.{ℕ, zero, suc, _+_, _≤_, _<_, min, max}
-use native.Mathlib.Nat.{add-zero, add-suc, suc-add, zero-add}
+use Prim.Native.Nat.{ℕ, zero, suc, _+_, _<_, min, max}
+use native.Mathlib.Nat.{add-zero, add-suc, suc-add}
 use native.Mathlib.Omega.{arith}
 use mathlib.Core.Path.{_≡_, refl, sym, ap, _∙_, subst}
-use mathlib.Core.Logic.{_⊎_, inl, inr, _≢_}
-use mathlib.Core.Bool.{Bool, true, false, _&&_, not, cond}
-use mathlib.Core.Option.{Option, none, some}
+use mathlib.Core.Logic.{_≢_}
+use mathlib.Core.Bool.{Bool, true, false, not, cond}
 use mathlib.Core.List.{List, [], _∷_, _++_}
-use lib.Dec.{T, T-not, eqb, eqb→eq}
+use lib.Dec.{T, eqb, eqb→eq}
 use lib.ListN.{length, getElem?, take, drop, length-append, take-append-drop}
 use lib.Seq.{length-take-le, take-at}
-use Rattle.model.specs.Basics.{iter, when, found, eqList, keepIf, All, AllPairs}
+use Rattle.model.specs.Basics.{when, eqList, keepIf, All, AllPairs}
 use Rattle.model.specs.Book.Syntax.{Clean, Table, width, tableAt}
-use Rattle.model.specs.Machine.State.{Record, recordSize, Env}
-use Rattle.model.specs.Commit.{mergeWord, mergeWords, hasKey, without, put, removal, insertion, removals, insertions, committed, commit}
+use Rattle.model.specs.Machine.State.{Record, recordSize}
+use Rattle.model.specs.Commit.{mergeWords, hasKey, without, put, removal, insertion, removals, insertions, committed, commit}
 use Rattle.model.specs.Laws.Supposed.{TableOk}
 use Rattle.model.specs.Laws.Logic.{and-T, eqList-refl, found-ind, when-ind, All-map, All-append, All-left, All-right, All-getD, All-at, All-zip}
 

@@ -1,22 +1,20 @@
 -- What a walk over a body drew: refusals 3, 6 and 4 are exact, and 5.
 use Prim.Native.Nat.{ℕ, zero, suc, _+_, _≤_, _<_}
-use mathlib.Core.Path.{_≡_, refl, sym, ap, _∙_, subst}
-use mathlib.Core.Logic.{_⊎_, inl, inr, _≢_}
-use mathlib.Core.Bool.{Bool, true, false, not, cond, true≢false, false≢true}
-use mathlib.Core.Option.{Option, none, some}
+use mathlib.Core.Path.{_≡_, refl, _∙_, subst}
+use mathlib.Core.Bool.{Bool, true, false, not, cond, false≢true}
+use mathlib.Core.Option.{some}
 use mathlib.Core.List.{List, [], _∷_, map}
 use native.Mathlib.Numerals.{add-one}
 use native.Mathlib.Omega.{arith}
 use lib.Dec.{eqb, ltb}
-use borrow.Author.Tests.{ltb-true, ltb-false, eqb-true, eqb-false, le-ltb, eq-eqb}
-use lib.ListN.{length, getD, getElem?, take, drop, length-map}
+use borrow.Author.Tests.{ltb-false, eqb-true, le-ltb}
+use lib.ListN.{length, getD, getElem?}
 use lib.Seq.{drop-cons}
-use Rattle.model.specs.Basics.{found}
 use Rattle.model.specs.Book.Syntax.{stale}
-use Rattle.model.specs.Book.Scan.{fine, six, four, Scan, bad, good, earliest, mark}
+use Rattle.model.specs.Book.Scan.{fine, six, four, good, earliest, mark}
 use Rattle.model.specs.Book.Decode.{part}
 use Rattle.model.specs.Claims.Grammar.{Role, plain, oneOf, kept, Word, Missing, Stale}
-use Rattle.model.specs.Laws.Logic.{none-some, some-inj, either}
+use Rattle.model.specs.Laws.Logic.{none-some, some-inj}
 use Rattle.model.proofs.Parses.{byRole, pass, Stands}
 
 -- ## The first word at fault

@@ -1,17 +1,17 @@
 -- What it is for a refusal to be exact, and how exact refusals follow one another.
-use Prim.Native.Nat.{ℕ, zero, suc, _+_, _≤_, _<_}
+use Prim.Native.Nat.{ℕ, _<_}
 use mathlib.Core.Path.{_≡_, refl, sym, ap, _∙_, subst}
 use mathlib.Core.Logic.{_⊎_, inl, inr}
-use mathlib.Core.Bool.{Bool, true, false, true≢false}
+use mathlib.Core.Bool.{Bool, true, true≢false}
 use mathlib.Core.Option.{Option, none, some}
 use mathlib.Core.List.{List, [], _∷_}
 use native.Mathlib.Decide.{decLt}
 use native.Mathlib.Omega.{arith}
 use lib.ListN.{getD}
-use Rattle.model.specs.Basics.{found, firstSome}
+use Rattle.model.specs.Basics.{firstSome}
 use Rattle.model.specs.Book.Words.{Refusal, unless}
 use Rattle.model.specs.Claims.Refusals.{InContents, counting, ending, entry, InBody, layout, absent, mark, repeat, InRule, size, unbound, heldOut, column, InRun, logFull, counterSpent, Fault, lengths, bytes, contents, body, rule, unfit, inRun, tablesFull, answerFull, stageOf, within, Before, Earlier}
-use Rattle.model.specs.Laws.Logic.{none-some, some-inj, unless-none, unless-some, either}
+use Rattle.model.specs.Laws.Logic.{unless-none, unless-some, either}
 use Rattle.model.specs.Laws.Lists as lists
 use Rattle.model.specs.Laws.Lists.{firstSome-none, firstSome-some}
 

@@ -1,21 +1,21 @@
 -- What a live lane needs is there, and clean.
-use Prim.Native.Nat.{ℕ, zero, suc, _+_, _≤_, _<_}
+use Prim.Native.Nat.{ℕ, suc, _+_, _<_}
 use native.Mathlib.Nat.{add-zero, add-suc, suc-add}
 use native.Mathlib.Omega.{arith}
-use mathlib.Core.Path.{_≡_, refl, sym, ap, _∙_, subst}
-use mathlib.Core.Logic.{_⊎_, inl, inr, _≢_}
-use mathlib.Core.Bool.{Bool, true, false, _&&_, not}
+use mathlib.Core.Path.{_≡_, refl, ap, _∙_, subst}
+use mathlib.Core.Logic.{_≢_}
+use mathlib.Core.Bool.{Bool, true, false, not}
 use mathlib.Core.Option.{Option, none, some}
-use mathlib.Core.List.{List, [], _∷_, _++_, append-assoc, append-nil}
-use lib.Dec.{T, eqb, ltb, leb, eqb→eq, eqb-refl, ltb→lt, not-T}
-use lib.ListN.{length, getD, getElem?, take, set, length-append}
+use mathlib.Core.List.{List, [], _∷_, _++_, append-assoc}
+use lib.Dec.{T, eqb, ltb, eqb→eq, eqb-refl, ltb→lt, not-T}
+use lib.ListN.{length, getD, getElem?, take, length-append}
 use Rattle.model.specs.Basics.{found, only, eqList, All}
-use Rattle.model.specs.Book.Syntax.{Clean, Counter, noCounter, limit, stale, QueryEntry, Var, Const, WriteVal, Entry, IncCounter, CurrentVal}
+use Rattle.model.specs.Book.Syntax.{Clean, Counter, noCounter, limit, QueryEntry, Var, Const, WriteVal, Entry, IncCounter, CurrentVal}
 use Rattle.model.specs.Machine.State.{Bindings}
-use Rattle.model.specs.Machine.Values.{bind, hold, laneOf, valueOf, cons?, valuesOf, listOf, find, Built, isStuck, isSpent, built, push, draw, handOut, write, build}
+use Rattle.model.specs.Machine.Values.{hold, laneOf, valueOf, valuesOf, listOf, find, Built, isStuck, isSpent, built, push, draw, handOut, write, build}
 use Rattle.model.specs.Check.{IsKnown, NotHeld, Below, entriesOf, currentsOf, against}
 use Rattle.model.specs.Laws.Supposed.{CleanConst, CounterOk}
-use Rattle.model.specs.Laws.Logic.{some-inj, none-some, only-T, only-some, found-ind, All-append, All-at, All-getD, All-set, at-length, All-map}
+use Rattle.model.specs.Laws.Logic.{some-inj, none-some, only-T, only-some, All-append, All-at, All-getD, All-set, at-length}
 
 -- each live lane can read the variables K, and what it reads is clean
 abbrev pub Readable : (ℕ → Type 0) → Bindings → List Bool → Type 0

@@ -1,6 +1,6 @@
 -- Trace and answers are ghosts: what a step does to the rest of the state does not depend on them.
 use Prim.Native.Nat.{ℕ, zero, suc, _+_}
-use mathlib.Core.Path.{_≡_, refl, sym, ap, _∙_, subst}
+use mathlib.Core.Path.{_≡_, refl, sym, ap, _∙_}
 use mathlib.Core.Bool.{Bool, true, false, _&&_, not}
 use mathlib.Core.Option.{Option, none, some}
 use mathlib.Core.List.{List, [], _∷_, _++_}
@@ -8,9 +8,9 @@ use lib.Dec.{eqb, leb}
 use lib.ListN.{length, getD, getElem?, take, drop}
 use Rattle.model.specs.Basics.{iter, when, found, only, first}
 use Rattle.model.specs.Book.Syntax.{QueryEntry, WriteVal, Instr, LookupOrInsertDefault, LookupWithDefault, Lookup, LookupWithFallback, Insert, InsertIfEq, Remove, External, ExternalWithFallback, AssertEq, AssertNe, AssertAnyNe, ReadCounter, dstOf, width, Rule, Step, batch, prediction, ruleAt}
-use Rattle.model.specs.Machine.State.{State, Site, Record, reads, took, asks, mask, isGoing, Bindings, Env, stop, note, give, lose, logged, change, reply, frame, need, ifRoom, logWords, stuck, full, survivors, predicted}
+use Rattle.model.specs.Machine.State.{State, Site, Record, reads, asks, mask, isGoing, Bindings, Env, stop, note, lose, logged, change, reply, frame, need, ifRoom, logWords, stuck, full, survivors}
 use Rattle.model.specs.Machine.Values.{hold, valueOf, valuesOf, listOf, find, predictedRows, Built, isStuck, isSpent, built, build}
-use Rattle.model.specs.Machine.Steps.{here, isLive, isNone, lanes, missed, wait, plain, clear, bindOut, anyLive, anyNe, readPair, takeColumn, takeDefault, assertAnyNe, begin, end, finish, tableOf, stage, stageNew, rowStart, predictRow, lookup, invoke, serveMissed, stageList, body, instruction, instructions, predict, step}
+use Rattle.model.specs.Machine.Steps.{here, isLive, isNone, lanes, missed, wait, plain, clear, bindOut, anyLive, anyNe, readPair, takeColumn, takeDefault, assertAnyNe, begin, end, finish, tableOf, stageNew, rowStart, predictRow, lookup, invoke, serveMissed, stageList, body, instruction, instructions, predict, step}
 
 -- without the ghosts
 abbrev pub bare : State → State

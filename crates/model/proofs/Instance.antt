@@ -1,20 +1,20 @@
 -- Demand 3 at work: the functions 0 to 7 answer no stale mark, and K1's book is accepted.
-use Prim.Native.Nat.{ℕ, zero, suc, _+_, _-_, _≤_, _<_, min, max}
+use Prim.Native.Nat.{ℕ, zero, suc, _+_, _-_}
 use native.Mathlib.Omega.{arith}
-use mathlib.Core.Path.{_≡_, refl, sym, ap, _∙_, subst}
+use mathlib.Core.Path.{_≡_, refl, subst}
 use mathlib.Core.Bool.{Bool, true, false, cond}
 use mathlib.Core.Option.{Option, none, some}
 use mathlib.Core.List.{List, [], _∷_}
-use lib.Dec.{T, leb, ltb, leb→le, ltb→lt}
+use lib.Dec.{T, leb, ltb, leb→le}
 use lib.ListN.{length, getElem?}
-use Rattle.model.specs.Basics.{only, All, AllPairs}
-use Rattle.model.specs.Book.Syntax.{Clean, QueryEntry, Var, Const, WriteVal, IncCounter, Instr, LookupOrInsertDefault, Table, Rule, dstOf, Step, batch, prediction}
-use Rattle.model.specs.Machine.State.{Site, Env}
+use Rattle.model.specs.Basics.{only, All}
+use Rattle.model.specs.Book.Syntax.{Clean, Var, IncCounter, Instr, LookupOrInsertDefault, Table, Rule, dstOf, Step}
+use Rattle.model.specs.Machine.State.{Env}
 use Rattle.model.specs.Machine.Steps.{run}
 use Rattle.model.specs.Machine.Functions.{arity, band, functions, apply, withFunctions}
 use Rattle.model.specs.Check.{check, checkInstr, sizesOf, readsOf, heldOf, columnsOf, bound?}
 use Rattle.model.specs.Claims.Demand3.{StepOk, Claims}
-use Rattle.model.specs.Laws.Supposed.{TableOk, RuleOk, Accepted, CleanConst}
+use Rattle.model.specs.Laws.Supposed.{Accepted, CleanConst}
 use Rattle.model.specs.Laws.Logic.{some-inj, none-some, only-some, All-getD}
 use Rattle.model.proofs.CheckExact.{check→conditions}
 use Rattle.model.proofs.Run.{demand-read}

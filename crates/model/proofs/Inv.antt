@@ -1,21 +1,20 @@
 -- The invariant of a run, and how each change of the state keeps it.
-use Prim.Native.Nat.{ℕ, zero, suc, _+_, _≤_, _<_}
+use Prim.Native.Nat.{ℕ, zero, suc, _≤_, _<_}
 use native.Mathlib.Omega.{arith}
-use mathlib.Core.Path.{_≡_, refl, sym, ap, _∙_, subst}
+use mathlib.Core.Path.{_≡_, sym, ap, _∙_, subst}
 use mathlib.Core.Logic.{_⊎_, inl, inr, _≢_}
-use mathlib.Core.Bool.{Bool, true, false, _&&_, not}
+use mathlib.Core.Bool.{Bool, false}
 use mathlib.Core.Option.{Option, none, some}
 use mathlib.Core.List.{List, [], _∷_, _++_}
-use lib.Dec.{T, eqb}
+use lib.Dec.{T}
 use lib.ListN.{length, getD, set, length-set}
-use lib.Seq.{getD-set-same, getD-set-other}
 use Rattle.model.specs.Basics.{All, AllPairs}
 use Rattle.model.specs.Book.Syntax.{Clean, Counter, tableAt}
-use Rattle.model.specs.Machine.State.{State, Site, Record, recordSize, Event, mask, reads, took, asks, Status, going, stuck, isGoing, Bindings, Env, stop, note, give, lose, withCounters, logged, frame}
+use Rattle.model.specs.Machine.State.{State, Site, Record, recordSize, Event, mask, reads, took, asks, Status, stuck, isGoing, Bindings, Env, stop, note, give, lose, withCounters, logged}
 use Rattle.model.specs.Machine.Steps.{here}
 use Rattle.model.specs.Claims.Demand3.{Within, NoReturn, NotStale, OneRow, OtherSite}
 use Rattle.model.specs.Laws.Supposed.{CounterOk}
-use Rattle.model.specs.Laws.Logic.{All-map, All-append, All-all, AllPairs-snoc, some-inj, none-some, either, nil-cons, le-cases}
+use Rattle.model.specs.Laws.Logic.{All-map, All-append, All-all, AllPairs-snoc, some-inj, either, nil-cons}
 use Rattle.model.proofs.Rows.{rowsOf, Steady}
 use Rattle.model.proofs.Fetch.{Readable}
 

@@ -2,24 +2,24 @@
 use Prim.Native.Nat.{ℕ, zero, suc, _+_, _≤_, _<_}
 use native.Mathlib.Omega.{arith}
 use mathlib.Core.Path.{_≡_, refl, sym, ap, _∙_, subst}
-use mathlib.Core.Logic.{_⊎_, inl, inr, _≢_}
+use mathlib.Core.Logic.{_≢_}
 use mathlib.Core.Bool.{Bool, true, false, _&&_, not}
 use mathlib.Core.Option.{Option, none, some}
 use mathlib.Core.List.{List, [], _∷_, _++_, append-nil}
 use lib.Dec.{T, eqb, leb, eqb→eq, eqb-refl, le→leb}
 use lib.ListN.{length, getD, getElem?, set, take, drop, length-set}
 use lib.Seq.{getD-set-same, take-at}
-use Rattle.model.specs.Basics.{found, only, first, when, keepIf, All, AllPairs}
-use Rattle.model.specs.Book.Syntax.{Clean, QueryEntry, WriteVal, Table, width, tableAt}
-use Rattle.model.specs.Machine.State.{State, Site, Record, recordSize, reads, took, asks, Status, going, stuck, spent, full, isGoing, Bindings, Env, stop, note, give, lose, withCounters, change, logged, need, ifRoom, logWords}
-use Rattle.model.specs.Machine.Values.{hold, valueOf, valuesOf, listOf, find, isRow, predictedRows, Built, isStuck, isSpent, built, build}
-use Rattle.model.specs.Machine.Steps.{here, tableOf, stage, stageNew, rowStart, predictRow, takeColumn, lookup, invoke, takeDefault, serveMissed, stageList, readPair, anyNe, assertAnyNe}
-use Rattle.model.specs.Check.{IsKnown, NotHeld, Below, entriesOf, currentsOf}
+use Rattle.model.specs.Basics.{first, keepIf, All}
+use Rattle.model.specs.Book.Syntax.{Clean, QueryEntry, WriteVal, width, tableAt}
+use Rattle.model.specs.Machine.State.{State, Record, recordSize, reads, took, asks, stuck, spent, full, isGoing, Bindings, Env, stop, note, give, lose, withCounters, change, logged, need, ifRoom, logWords}
+use Rattle.model.specs.Machine.Values.{hold, find, isRow, predictedRows, Built, isStuck, isSpent, built, build}
+use Rattle.model.specs.Machine.Steps.{here, tableOf, stageNew, predictRow, takeColumn, lookup, invoke, takeDefault, serveMissed, stageList, readPair, anyNe, assertAnyNe}
+use Rattle.model.specs.Check.{IsKnown, Below, entriesOf, currentsOf}
 use Rattle.model.specs.Claims.Demand3.{Within}
 use Rattle.model.specs.Laws.Supposed.{TableOk, CleanConst}
-use Rattle.model.specs.Laws.Logic.{and-T, some-inj, none-some, found-ind, when-ind, only-T, All-map, All-at, All-getD, either, nil-cons, All-zip}
-use Rattle.model.proofs.Rows.{rowsOf, Steady, steady-other, new-row, steady-row}
-use Rattle.model.proofs.Fetch.{Readable, Reads1, Reads, entry-read, entries-read, list-read, But, hold-read, held-known, find-All, cell, BuiltOk, build-ok}
+use Rattle.model.specs.Laws.Logic.{and-T, some-inj, none-some, found-ind, when-ind, only-T, All-getD, All-zip}
+use Rattle.model.proofs.Rows.{rowsOf, steady-other, new-row, steady-row}
+use Rattle.model.proofs.Fetch.{Readable, entry-read, entries-read, list-read, But, hold-read, find-All, cell, BuiltOk, build-ok}
 use Rattle.model.proofs.Inv.{Inv, stop-inv, reads-inv, took-inv, asks-inv, counters-inv, give-inv, lose-inv, logged-inv, weaken, set-within, RowSized}
 
 -- ## Small facts

@@ -1,21 +1,20 @@
 -- The walk over fields and instructions agrees with the grammar.
-use Prim.Native.Nat.{ℕ, zero, suc, _+_, _*_, _≤_, _<_}
+use Prim.Native.Nat.{ℕ, zero, suc, _+_, _≤_, _<_}
 use mathlib.Core.Path.{_≡_, refl, sym, ap, _∙_, subst}
 use mathlib.Core.Logic.{_⊎_, inl, inr}
 use mathlib.Core.Bool.{Bool, true, false, _&&_, cond, true≢false}
-use mathlib.Core.List.{List, [], _∷_, _++_, append-nil}
-use native.Mathlib.Omega.{arith}
+use mathlib.Core.List.{List, [], _∷_, _++_}
 use lib.Dec.{ltb, leb}
 use borrow.Author.Tests.{ltb-true, leb-true, lt-ltb, le-leb}
-use lib.ListN.{length, getD, length-append}
+use lib.ListN.{length, getD}
 use Rattle.model.specs.Basics.{iter}
 use Rattle.model.specs.Book.Layout.{Field, table, counter, function, dst, column, divider, entry, entries, writes, formOf}
-use Rattle.model.specs.Book.Scan.{Draw, fine, three, Scan, bad, good, _▹_, Sizes, anyWord, below, upTo, clean, opcode, tag, tagged, peek, step, word, list, pair, field, walk, instr}
+use Rattle.model.specs.Book.Scan.{Draw, fine, three, Scan, bad, good, _▹_, Sizes, anyWord, below, upTo, opcode, tag, tagged, step, word, list, pair, field, walk, instr}
 use Rattle.model.specs.Claims.Grammar as grammar
-use Rattle.model.specs.Claims.Grammar.{Role, plain, oneOf, kept, Word, plainly, Times, tagRole, Pair, Listed, listed, FieldForm, FieldsForm, InstrForm}
+use Rattle.model.specs.Claims.Grammar.{Role, plain, oneOf, Word, plainly, Times, tagRole, Pair, Listed, listed, FieldForm, FieldsForm, InstrForm}
 use Rattle.model.specs.Laws.Logic.{and-split, and-join}
-use Rattle.model.specs.Laws.Scan.{field-bad, walk-bad}
-use Rattle.model.proofs.Parses.{byRole, pass, Stands, Tells, Fits, Parse, isBad, isGood, parse-map, parse-none, One, parse-word, Then, parse-then}
+use Rattle.model.specs.Laws.Scan.{walk-bad}
+use Rattle.model.proofs.Parses.{byRole, Stands, Tells, Fits, Parse, parse-map, parse-none, One, parse-word, Then, parse-then}
 
 -- a count up to `most`, then so many
 abbrev pub Counted : ℕ → (List Word → Type 0) → List Word → Type 0

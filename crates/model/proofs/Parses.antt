@@ -1,18 +1,16 @@
 -- How a walk reads words by a grammar: it is bad exactly where no words of the grammar stand, and else it has passed them one by one.
-use Prim.Native.Nat.{ℕ, zero, suc, _+_, _≤_, _<_}
+use Prim.Native.Nat.{ℕ, _+_, _≤_}
 use mathlib.Core.Path.{_≡_, refl, sym, ap, _∙_, subst}
 use mathlib.Core.Logic.{_⊎_, inl, inr}
 use mathlib.Core.Bool.{Bool, true, false, cond}
-use mathlib.Core.List.{List, [], _∷_, _++_, append-nil}
+use mathlib.Core.List.{List, [], _∷_, _++_}
 use native.Mathlib.Omega.{arith}
 use lib.Dec.{eqb, ltb}
 use borrow.Author.Tests.{ltb-true, ltb-false}
 use lib.ListN.{length, getD, length-append}
-use Rattle.model.specs.Basics.{iter}
 use Rattle.model.specs.Book.Syntax.{stale}
 use Rattle.model.specs.Book.Scan.{Draw, fine, three, six, four, Scan, bad, good, _▹_, earliest, mark, require, below, clean, step, word}
-use Rattle.model.specs.Claims.Grammar.{Role, plain, oneOf, kept, Word, Times, none, more}
-use Rattle.model.specs.Laws.Logic.{either}
+use Rattle.model.specs.Claims.Grammar.{Role, plain, oneOf, kept, Word}
 
 -- what a word draws in its role; the walk past a word, and past words
 abbrev pub byRole : Role → ℕ → Draw

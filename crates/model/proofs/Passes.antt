@@ -1,20 +1,18 @@
 -- A pass over the lanes keeps what each turn keeps, and settles what each turn settles.
-use Prim.Native.Nat.{ℕ, zero, suc, _+_, _≤_, _<_}
+use Prim.Native.Nat.{ℕ, zero, suc, _<_}
 use native.Mathlib.Nat.{not-suc-le-zero}
 use native.Mathlib.Omega.{arith}
-use mathlib.Core.Path.{_≡_, refl, sym, ap, _∙_, subst}
-use mathlib.Core.Logic.{_⊎_, inl, inr}
+use mathlib.Core.Path.{_≡_, refl, sym, _∙_, subst}
 use mathlib.Core.Bool.{Bool, true, false, _&&_, not}
 use mathlib.Core.Option.{Option, none, some}
-use mathlib.Core.List.{List, [], _∷_}
 use lib.Dec.{T, T-not}
 use lib.ListN.{length, getD}
 use Rattle.model.specs.Basics.{iter, when}
 use Rattle.model.specs.Machine.State.{State, isGoing, Env}
 use Rattle.model.specs.Machine.Steps.{isLive, isNone, lanes, missed}
-use Rattle.model.specs.Laws.Logic.{and-T, T-and, either, le-cases, T-cases, when-cases}
+use Rattle.model.specs.Laws.Logic.{and-T, T-and, either, le-cases, when-cases}
 use Rattle.model.proofs.Inv.{Inv, weaken}
-use Rattle.model.proofs.Lanes.{Lane, Done, Settled, HasDst, live-below}
+use Rattle.model.proofs.Lanes.{Lane, Done, Settled, live-below}
 
 module _ (E : Env) (K : ℕ → Type 0) (k j : ℕ) where
   pub lane-trans : (q q′ : ℕ) (s s′ s″ : State) → Lane E K k j q s s′ → Lane E K k j q′ s′ s″ → Lane E K k j q′ s s″

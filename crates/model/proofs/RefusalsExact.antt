@@ -1,26 +1,25 @@
 -- Each refusal comes under its own condition only, in the order of document 01, and a book with no fault is accepted.
-use Prim.Native.Nat.{ℕ, zero, suc, _+_, _≤_, _<_}
+use Prim.Native.Nat.{ℕ, suc, _+_, _≤_, _<_}
 use mathlib.Core.Path.{_≡_, refl, sym, ap, _∙_, subst}
 use mathlib.Core.Logic.{_⊎_, inl, inr, _≢_, _↔_}
 use mathlib.Core.Bool.{Bool, true, false, _&&_}
 use mathlib.Core.Option.{Option, none, some}
-use mathlib.Core.List.{List, [], _∷_}
+use mathlib.Core.List.{List, []}
 use native.Mathlib.Omega.{arith}
-use lib.Dec.{eqb, leb, ltb}
+use lib.Dec.{eqb, leb}
 use borrow.Author.Tests.{ltb-true, lt-ltb, leb-true, leb-false, le-leb, eqb-true, eq-eqb}
 use lib.ListN.{length}
 use Rattle.model.specs.Basics.{found, _else_, All}
-use Rattle.model.specs.Book.Syntax.{Table}
 use Rattle.model.specs.Book.Words.{Refusal, unless, Byte, wordsOf, bytesRefusal}
 use Rattle.model.specs.Book.Contents.{count, contentsRefusal, stepCount, firstStep}
 use Rattle.model.specs.Book.Read.{bodyRefusal, bodiesRefusal, steps, stepsRefusal}
 use Rattle.model.specs.Machine.State.{State, stuck}
 use Rattle.model.specs.Machine.Functions.{apply}
 use Rattle.model.specs.Answer.{answer, rowWords}
-use Rattle.model.specs.Outcome.{Lent, Outcome, refused, accepted, lentRefusal, rulesRefusal, wordsRefusal, bookRefusal, ran, committedBy, ended, endRefusal, left, committed, refusal, outcome}
-use Rattle.model.specs.Claims.Refusals.{LentOk, BytesOk, after, final, InContents, InBody, InRule, InRun, Fault, lengths, bytes, contents, body, rule, unfit, inRun, tablesFull, answerFull, numberOf, placeOf, AtBody, AtFault, stageOf, within, contentsOrder, bodyOrder, ruleOrder, runOrder, Before, Earlier, First, refusalOf, RefusalsExact, AcceptedExact}
-use Rattle.model.specs.Laws.Logic.{and-split, and-join, none-some, some-inj, else-none, else-some, either, le-cases, at-below}
-use Rattle.model.specs.Laws.Contents.{ContentsOk, contents-ok}
+use Rattle.model.specs.Outcome.{Lent, refused, accepted, lentRefusal, rulesRefusal, wordsRefusal, bookRefusal, committedBy, ended, endRefusal, left, committed, refusal, outcome}
+use Rattle.model.specs.Claims.Refusals.{LentOk, BytesOk, after, final, InContents, InBody, InRule, InRun, Fault, lengths, bytes, contents, body, rule, unfit, inRun, tablesFull, answerFull, AtBody, AtFault, stageOf, within, bodyOrder, Before, Earlier, First, refusalOf, RefusalsExact, AcceptedExact}
+use Rattle.model.specs.Laws.Logic.{and-split, and-join, none-some, some-inj, else-none, either, le-cases}
+use Rattle.model.specs.Laws.Contents.{contents-ok}
 use Rattle.model.proofs.Exact.{Exact, exact-unless, exact-first, fault-cases, of-lengths, of-bytes, of-contents, of-body, of-rule, of-unfit, of-run, of-tables, of-answer}
 use Rattle.model.proofs.BodyFaults.{body-exact}
 use Rattle.model.proofs.StageFaults.{contents-exact, steps-exact}

@@ -1,13 +1,11 @@
 -- Predicted rows of a growing log.
-use Prim.Native.Nat.{ℕ, zero, suc, _+_, _≤_, _<_}
-use native.Mathlib.Omega.{arith}
-use mathlib.Core.Path.{_≡_, refl, sym, ap, _∙_, subst}
+use Prim.Native.Nat.{ℕ}
+use mathlib.Core.Path.{_≡_, refl, sym, _∙_, subst}
 use mathlib.Core.Logic.{_⊎_, inl, inr}
 use mathlib.Core.Bool.{Bool, true, false, _&&_, not}
-use mathlib.Core.Option.{Option, none, some}
 use mathlib.Core.List.{List, [], _∷_, _++_, append-nil}
-use lib.Dec.{T, eqb, eqb→eq, eqb-refl, T-not}
-use lib.ListN.{length, take}
+use lib.Dec.{T, eqb, eqb→eq, eqb-refl}
+use lib.ListN.{take}
 use Rattle.model.specs.Basics.{eqList, keepIf}
 use Rattle.model.specs.Book.Syntax.{tableAt}
 use Rattle.model.specs.Machine.State.{Record, Env}

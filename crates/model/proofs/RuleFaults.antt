@@ -1,15 +1,14 @@
 -- Refusals 8, 7, 10 and 9 are exact: the first instruction at fault, and of its faults the first in that order.
-use Prim.Native.Nat.{ℕ, zero, suc, _+_, _≤_, _<_}
+use Prim.Native.Nat.{ℕ, zero, suc, _<_}
 use mathlib.Core.Path.{_≡_, refl, sym, ap, _∙_, subst}
-use mathlib.Core.Logic.{_⊎_, inl, inr}
-use mathlib.Core.Bool.{Bool, true, false, true≢false, false≢true}
+use mathlib.Core.Bool.{Bool, true, false, true≢false}
 use mathlib.Core.Option.{Option, none, some}
 use mathlib.Core.List.{List, [], _∷_}
 use native.Mathlib.Omega.{arith}
 use lib.Dec.{T}
 use lib.ListN.{length, getElem?}
-use Rattle.model.specs.Basics.{iter, found, firstSome, all, All}
-use Rattle.model.specs.Book.Syntax.{Instr, Table, Rule}
+use Rattle.model.specs.Basics.{found, firstSome, all, All}
+use Rattle.model.specs.Book.Syntax.{Instr, Rule}
 use Rattle.model.specs.Book.Words.{Refusal}
 use Rattle.model.specs.Book.Contents.{ruleCount}
 use Rattle.model.specs.Book.Decode.{readRule, instrPlace}
@@ -17,7 +16,7 @@ use Rattle.model.specs.Book.Read.{tables}
 use Rattle.model.specs.Check.{readsOf, heldOf, sizesOf, columnsOf, Fits, IsKnown, NotHeld, Below, Known, fits?, known?, free?, below?, refuse, checkInstr, bound?, placed, checkAt, check}
 use Rattle.model.specs.Machine.Functions.{arity}
 use Rattle.model.specs.Outcome.{ruleFirst, ruleRefusal, rulesRefusal}
-use Rattle.model.specs.Claims.Refusals.{InstrAt, InRule, size, unbound, heldOut, column, AtRule, numberOf, placeOf, rule, ruleOrder, Before}
+use Rattle.model.specs.Claims.Refusals.{InRule, size, unbound, heldOut, column, AtRule, numberOf, rule, ruleOrder, Before}
 use Rattle.model.specs.Laws.Logic.{none-some, some-inj, either, at-length, at-below}
 use Rattle.model.proofs.CheckExact.{all→All, All→all, fits→, →fits, known→, →known, free→, →free, below→, →below, bound→, →bound}
 use Rattle.model.proofs.Exact.{Exact, exact-map, exact-first}

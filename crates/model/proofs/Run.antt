@@ -1,29 +1,29 @@
 -- Demand 3: the invariant over instructions, steps and a whole run.
-use Prim.Native.Nat.{ℕ, zero, suc, _+_, _≤_, _<_}
+use Prim.Native.Nat.{ℕ, zero, suc, _+_, _<_}
 use native.Mathlib.Nat.{not-suc-le-zero, zero-add}
 use native.Mathlib.Omega.{arith}
 use mathlib.Core.Path.{_≡_, refl, sym, ap, _∙_, subst}
 use mathlib.Core.Logic.{_⊎_, inl, inr, _≢_}
-use mathlib.Core.Bool.{Bool, true, false, _&&_, _||_, not}
+use mathlib.Core.Bool.{Bool, true, false, _&&_, not}
 use mathlib.Core.Option.{Option, none, some}
-use mathlib.Core.List.{List, [], _∷_, _++_, map, append-nil}
-use lib.Dec.{T, T-not, eqb, eqb→eq, eqb-refl}
+use mathlib.Core.List.{List, [], _∷_, map, append-nil}
+use lib.Dec.{T, T-not, eqb, eqb-refl}
 use lib.ListN.{length, getD, getElem?, replicate, length-replicate}
-use Rattle.model.specs.Basics.{iter, when, found, only, All, AllPairs}
-use Rattle.model.specs.Book.Syntax.{Clean, Counter, QueryEntry, Var, Const, WriteVal, Entry, IncCounter, CurrentVal, Instr, dstOf, width, Rule, Step, batch, prediction, tableAt, ruleAt}
-use Rattle.model.specs.Machine.State.{State, Site, Record, Event, mask, reads, took, asks, Status, going, stuck, isGoing, Bindings, Answer, survivors, predicted, Env, note, change, reply, frame}
-use Rattle.model.specs.Machine.Values.{bind, laneOf, find, Built, built, build}
-use Rattle.model.specs.Machine.Steps.{here, tableOf, clear, orStale, bindOut, anyLive, finish, instruction, body, allLive, begin, instructions, end, rowStart, predictRow, predict, step, fresh, run}
+use Rattle.model.specs.Basics.{when, found, only, All, AllPairs}
+use Rattle.model.specs.Book.Syntax.{Clean, Counter, Var, Const, WriteVal, Entry, IncCounter, CurrentVal, Instr, dstOf, width, Rule, Step, batch, prediction, tableAt, ruleAt}
+use Rattle.model.specs.Machine.State.{State, Site, Record, Event, mask, reads, took, asks, Status, going, stuck, isGoing, Bindings, survivors, predicted, Env, note, change, reply, frame}
+use Rattle.model.specs.Machine.Values.{bind, laneOf, find, built, build}
+use Rattle.model.specs.Machine.Steps.{here, tableOf, clear, orStale, bindOut, anyLive, finish, instruction, body, allLive, begin, instructions, end, predict, step, run}
 use Rattle.model.specs.Check.{Sound, readsOf, IsKnown, Below, entriesOf, currentsOf, Known}
 use Rattle.model.specs.Commit.{commit}
-use Rattle.model.specs.Claims.Demand3.{Given, StepOk, Within, NoReturn, NotStale, OneRow, OtherSite, Claims}
+use Rattle.model.specs.Claims.Demand3.{Given, StepOk, NoReturn, NotStale, OneRow, Claims}
 use Rattle.model.specs.Laws.Supposed.{TableOk, CleanConst, CounterOk, RuleOk, Accepted, DemandRead}
-use Rattle.model.specs.Laws.Logic.{and-T, T-and, or-l, or-r, some-inj, none-some, found-ind, when-ind, only-T, All-map, All-at, All-getD, All-all, at-length, either, T-cases, when-cases}
+use Rattle.model.specs.Laws.Logic.{T-and, or-l, or-r, some-inj, none-some, found-ind, when-ind, only-T, All-map, All-at, All-getD, at-length, either, T-cases, when-cases}
 use Rattle.model.proofs.CheckExact.{known-cases}
 use Rattle.model.proofs.Rows.{rowsOf}
 use Rattle.model.proofs.Fetch.{Readable, find-All, BuiltOk, build-ok}
-use Rattle.model.proofs.Inv.{Inv, Earlier, next-instr, next-step, Over, LogOk, EventsOk, moved, took-inv, asks-inv}
-use Rattle.model.proofs.Lanes.{Same, Lane, Settled, HasDst, need-some, predict-ok, table-ok}
+use Rattle.model.proofs.Inv.{Inv, next-instr, next-step, Over, LogOk, moved, took-inv, asks-inv}
+use Rattle.model.proofs.Lanes.{Lane, Settled, need-some, predict-ok, table-ok}
 use Rattle.model.proofs.Bodies.{Filled, body-ok}
 use Rattle.model.proofs.CommitOk.{commit-ok}
 

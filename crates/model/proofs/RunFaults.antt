@@ -1,13 +1,12 @@
 -- Refusals 12 and 13 are exact, and a run that draws neither is the run on a log without end.
-use Prim.Native.Nat.{ℕ, zero, suc, _+_, _≤_, _<_}
+use Prim.Native.Nat.{ℕ, suc, _+_, _≤_, _<_}
 use mathlib.Core.Path.{_≡_, refl, sym, ap, _∙_, subst}
 use mathlib.Core.Logic.{_⊎_, inl, inr, _≢_}
 use mathlib.Core.Bool.{true, false, false≢true}
-use mathlib.Core.Option.{Option, none, some}
+use mathlib.Core.Option.{none}
 use mathlib.Core.List.{List, [], _∷_}
 use native.Mathlib.Omega.{arith}
 use lib.ListN.{length}
-use Rattle.model.specs.Basics.{All}
 use Rattle.model.specs.Book.Words.{Refusal}
 use Rattle.model.specs.Book.Contents.{stepCount, firstStep}
 use Rattle.model.specs.Book.Read.{counters, step, steps}
@@ -18,7 +17,7 @@ use Rattle.model.specs.Laws.Logic.{none-some, some-inj, either}
 use Rattle.model.specs.Laws.Lists.{length-tab}
 use Rattle.model.proofs.Exact.{Exact}
 use Rattle.model.proofs.Endless as endless
-use Rattle.model.proofs.Endless.{log-grows, answers-counted, still, Stopped, stopped, never-full, Filled, follows}
+use Rattle.model.proofs.Endless.{log-grows, still, stopped, never-full, Filled, follows}
 
 module _ (l : Lent) (w : List ℕ) (unstuck : after w (stepCount w) .status ≢ stuck) where
   abbrev n : ℕ

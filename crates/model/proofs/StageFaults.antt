@@ -1,30 +1,24 @@
 -- Refusals 2 and 11 are exact.
-use Prim.Native.Nat.{ℕ, zero, suc, _+_, _≤_, _<_}
-use mathlib.Core.Path.{_≡_, refl, sym, ap, _∙_, subst}
+use Prim.Native.Nat.{ℕ, _+_, _<_}
+use mathlib.Core.Path.{_≡_, sym, _∙_}
 use mathlib.Core.Logic.{_⊎_, inl, inr}
-use mathlib.Core.Bool.{Bool, true, false, not, true≢false, false≢true}
-use mathlib.Core.Option.{Option, none, some}
+use mathlib.Core.Bool.{Bool, true, false, not, true≢false}
+use mathlib.Core.Option.{none, some}
 use mathlib.Core.List.{List, [], _∷_}
 use native.Mathlib.Omega.{arith}
-use lib.Dec.{T, eqb}
+use lib.Dec.{eqb}
 use borrow.Author.Tests.{eqb-true, eq-eqb, not-true, not-false}
-use lib.ListN.{length, getElem?}
-use Rattle.model.specs.Basics.{iter, found, _else_, firstSome, least, all, All}
-use Rattle.model.specs.Book.Syntax.{Instr, Table, Rule}
+use lib.ListN.{length}
+use Rattle.model.specs.Basics.{found, least}
 use Rattle.model.specs.Book.Words.{Refusal, unless}
-use Rattle.model.specs.Book.Contents.{count, begins, entryFits, countFits, contentsRefusal, ruleCount, stepCount, firstStep}
-use Rattle.model.specs.Book.Decode.{readRule, instrPlace}
+use Rattle.model.specs.Book.Contents.{count, begins, entryFits, countFits, contentsRefusal, stepCount, firstStep}
 use Rattle.model.specs.Book.Read.{tables, rules, step, stepFits, stepsRefusal}
-use Rattle.model.specs.Check.{readsOf, heldOf, sizesOf, columnsOf, Fits, IsKnown, NotHeld, Below, Known, fits?, known?, free?, below?, refuse, checkInstr, bound?, placed, checkAt, check}
-use Rattle.model.specs.Machine.Functions.{arity}
-use Rattle.model.specs.Outcome.{ruleFirst, ruleRefusal, rulesRefusal}
-use Rattle.model.specs.Claims.Refusals.{CountOk, EntryOk, EndOk, InstrAt, StepFits, InContents, counting, ending, entry, AtContents, InRule, size, unbound, heldOut, column, AtRule, numberOf, placeOf, contents, rule, unfit, contentsOrder, ruleOrder, Before}
-use Rattle.model.specs.Laws.Logic.{none-some, some-inj, seq-none, seq-some, else-none, else-some, unless-none, unless-some, either, at-length}
+use Rattle.model.specs.Claims.Refusals.{CountOk, EntryOk, EndOk, StepFits, InContents, counting, ending, entry, AtContents, placeOf, contents, contentsOrder, Before}
+use Rattle.model.specs.Laws.Logic.{none-some, seq-none, seq-some, else-none, else-some, either}
 use Rattle.model.specs.Laws.Lists.{Least, least-none, least-some}
 use Rattle.model.specs.Laws.Contents.{count-ok, ok-count, entry-ok, ok-entry}
 use Rattle.model.specs.Laws.Steps.{step-true, true-step}
-use Rattle.model.proofs.CheckExact.{all→All, All→all, fits→, →fits, known→, →known, free→, →free, below→, →below, bound→, →bound}
-use Rattle.model.proofs.Exact.{Exact, exact-unless, exact-first}
+use Rattle.model.proofs.Exact.{Exact, exact-unless}
 
 -- the least number that a test finds
 pub exact-least : (p : ℕ → Bool) (n : ℕ) (At : ℕ → Type 0) (says : ℕ → Refusal) → ((k : ℕ) → p k ≡ true → At k) → ((k : ℕ) → At k → p k ≡ false → ⊥)

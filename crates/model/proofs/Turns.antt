@@ -1,16 +1,16 @@
 -- What a lane's turn comes to, case by case, as equations: for the loops of the code.
-use Prim.Native.Nat.{ℕ, zero, suc, _+_, _≤_}
-use mathlib.Core.Path.{_≡_, refl, sym, ap, _∙_}
-use mathlib.Core.Bool.{Bool, true, false, _&&_, not}
-use mathlib.Core.Option.{Option, none, some}
+use Prim.Native.Nat.{ℕ, _+_}
+use mathlib.Core.Path.{_≡_}
+use mathlib.Core.Bool.{Bool, true, false, not}
+use mathlib.Core.Option.{none, some}
 use mathlib.Core.List.{List, [], _∷_, _++_}
-use lib.Dec.{T, eqb, leb}
-use lib.ListN.{length, getD, getElem?, take, drop}
-use Rattle.model.specs.Basics.{iter, when, first, only}
+use lib.Dec.{eqb, leb}
+use lib.ListN.{length, getElem?, take, drop}
+use Rattle.model.specs.Basics.{when}
 use Rattle.model.specs.Book.Syntax.{Counter, QueryEntry, WriteVal, width}
-use Rattle.model.specs.Machine.State.{State, Site, Record, reads, took, asks, stuck, spent, full, Bindings, Env, stop, note, give, lose, withCounters, change, logged, logWords}
-use Rattle.model.specs.Machine.Values.{hold, valueOf, valuesOf, listOf, find, predictedRows, Built, isStuck, isSpent, built, build}
-use Rattle.model.specs.Machine.Steps.{tableOf, rowStart, predictRow, takeColumn, lookup, invoke, takeDefault, serveMissed, stageList, readPair, anyNe, assertAnyNe, isLive, isNone, lanes, missed}
+use Rattle.model.specs.Machine.State.{State, Site, Record, reads, took, spent, full, Bindings, Env, stop, note, give, lose, withCounters, change, logged, logWords}
+use Rattle.model.specs.Machine.Values.{valueOf, valuesOf, listOf, find, predictedRows, isSpent, built, build}
+use Rattle.model.specs.Machine.Steps.{tableOf, predictRow, takeColumn, lookup, invoke, takeDefault, stageList, readPair, anyNe, assertAnyNe}
 
 pub when-T : {A : Type 0} (b : Bool) (f : A → A) (s : A) → b ≡ true → when b f s ≡ f s
 when-T b f s e = rw e

@@ -1,8 +1,7 @@
 -- The answer book: contents, then tables, counters, a body for each step in step order, and the log.
-use Prim.Native.Nat.{ℕ, zero, suc, _+_, _*_}
+use Prim.Native.Nat.{ℕ, _+_, _*_}
 use mathlib.Core.Path.{_≡_}
 use mathlib.Core.Bool.{Bool, true, false}
-use mathlib.Core.Option.{Option, none, some}
 use mathlib.Core.List.{List, [], _∷_, _++_, map, reverse}
 use lib.ListN.{length, getD}
 use Rattle.model.specs.Basics.{found, tab, join, howMany}

@@ -1,12 +1,11 @@
 -- The commit: all removals first, then inserts and predicted rows in log order; a key already there merges by the table's rule.
-use Prim.Native.Nat.{ℕ, zero, suc, min, max}
-use mathlib.Core.Bool.{Bool, true, false, _&&_, not, cond}
-use mathlib.Core.Option.{Option, none, some}
+use Prim.Native.Nat.{ℕ, suc, min, max}
+use mathlib.Core.Bool.{Bool, _&&_, not, cond}
 use mathlib.Core.List.{List, [], _∷_, _++_}
 use lib.Dec.{eqb}
 use lib.ListN.{length, take, drop, getD, getElem?}
 use Rattle.model.specs.Basics.{iter, when, found, eqList, keepIf}
-use Rattle.model.specs.Book.Syntax.{Table, tableAt}
+use Rattle.model.specs.Book.Syntax.{Table}
 use Rattle.model.specs.Machine.State.{Record}
 
 -- 0 keep, 1 replace, 2 least, 3 greatest

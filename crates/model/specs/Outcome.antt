@@ -1,13 +1,13 @@
 -- A book to its answer or its refusal, in the order of document 01.
 use Prim.Native.Nat.{ℕ, _+_}
 use mathlib.Core.Path.{_≡_}
-use mathlib.Core.Bool.{Bool, true, _&&_}
+use mathlib.Core.Bool.{Bool, _&&_}
 use mathlib.Core.Option.{Option, none, some}
 use mathlib.Core.List.{List}
 use lib.Dec.{eqb, leb}
 use lib.ListN.{length}
 use Rattle.model.specs.Basics.{found, _else_, firstSome}
-use Rattle.model.specs.Book.Syntax.{Table, Rule}
+use Rattle.model.specs.Book.Syntax.{Table}
 use Rattle.model.specs.Book.Words.{Refusal, unless, wordsOf, bytesRefusal}
 use Rattle.model.specs.Book.Contents.{contentsRefusal, firstOf, firstRule, firstStep, ruleCount}
 use Rattle.model.specs.Book.Decode.{readRule, instrPlace}

@@ -1,12 +1,12 @@
 -- The lines that program `dispatch` prints.
 use Prim.Native.Nat.{ℕ, suc}
-use mathlib.Core.Bool.{Bool, true, false}
+use mathlib.Core.Bool.{Bool, false}
 use mathlib.Core.List.{List, [], _∷_, _++_, reverse}
 use lib.Dec.{eqb}
 use lib.ListN.{length, getD}
 use Rattle.model.specs.Basics.{found, howMany}
 use Rattle.model.specs.Book.Syntax.{Counter, nextOf, Table}
-use Rattle.model.specs.Machine.State.{State, Record, Answer, survivors, predicted}
+use Rattle.model.specs.Machine.State.{Record, Answer, survivors, predicted}
 use Rattle.model.specs.Answer.{flag}
 use Rattle.model.specs.Outcome.{Lent, left, committed, refusal}
 

@@ -1,17 +1,17 @@
 -- A book's words: its refusals 3, 6, 4 and 5 by body, what it reads to, and refusal 11.
-use Prim.Native.Nat.{ℕ, zero, suc, _+_, _*_}
-use mathlib.Core.Bool.{Bool, true, false, _&&_, _||_, not, cond}
+use Prim.Native.Nat.{ℕ, zero, suc, _+_}
+use mathlib.Core.Bool.{Bool, true, false, _&&_, _||_, not}
 use mathlib.Core.Option.{Option, none, some}
-use mathlib.Core.List.{List, [], _∷_}
-use lib.Dec.{eqb, ltb, leb}
+use mathlib.Core.List.{List, []}
+use lib.Dec.{eqb, ltb}
 use lib.ListN.{length, getD, take}
 use Rattle.model.specs.Basics.{found, _else_, firstSome, least, tab}
 use Rattle.model.specs.Book.Syntax.{Counter, Table, width, Rule, Step, batch, prediction, tableAt, ruleAt}
 use Rattle.model.specs.Machine.Values.{find}
-use Rattle.model.specs.Book.Words.{Refusal, unless}
+use Rattle.model.specs.Book.Words.{Refusal}
 use Rattle.model.specs.Book.Contents.{count, kindOf, firstOf, endOf, tableCount, counterCount, ruleCount, stepCount, firstRule, firstStep}
 use Rattle.model.specs.Book.Scan.{Scan, bad, good, Sizes, scan}
-use Rattle.model.specs.Book.Decode.{readTable, readCounter, readRule, readStep, rowPlace, instrPlace}
+use Rattle.model.specs.Book.Decode.{readTable, readCounter, readRule, readStep, rowPlace}
 
 -- what a walk over body i drew
 abbrev pub drew3 : ℕ → Scan → Option Refusal

@@ -7,7 +7,7 @@ use lib.ListN.{set}
 use Rattle.model.specs.Basics.{All}
 use Rattle.model.specs.Book.Words.{bytesOf}
 use Rattle.model.specs.Outcome.{Lent, Outcome, refused, accepted, left, outcome}
-use Rattle.model.specs.Printed.{Line, run, ins, changed, table, counter, printed}
+use Rattle.model.specs.Printed.{run, ins, changed, table, counter, printed}
 
 -- what program `dispatch` lends
 abbrev pub dispatchLends : Lent

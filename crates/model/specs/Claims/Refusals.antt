@@ -1,9 +1,9 @@
 -- Each refusal comes under its own condition only: the conditions in the words of document 01's table, and the order among them.
 use Prim.Native.Nat.{ℕ, suc, _+_, _*_, _%_, _≤_, _<_}
 use mathlib.Core.Path.{_≡_}
-use mathlib.Core.Logic.{_⊎_, _≢_, _↔_}
+use mathlib.Core.Logic.{_⊎_, _↔_}
 use mathlib.Core.Bool.{true, false}
-use mathlib.Core.Option.{Option, none, some}
+use mathlib.Core.Option.{none, some}
 use mathlib.Core.List.{List, [], _∷_, _++_, map}
 use lib.ListN.{length, getD, getElem?, take}
 use Rattle.model.specs.Basics.{All, first}
@@ -18,7 +18,7 @@ use Rattle.model.specs.Machine.Values.{hold, valuesOf, find, predictedRo
 use Rattle.model.specs.Machine.Functions.{arity}
 use Rattle.model.specs.Machine.Steps.{here, run}
 use Rattle.model.specs.Answer.{answer, rowWords}
-use Rattle.model.specs.Outcome.{Lent, Outcome, refused, accepted, outcome, ruleFirst, envOf, committedBy}
+use Rattle.model.specs.Outcome.{Lent, refused, accepted, outcome, ruleFirst, envOf, committedBy}
 use Rattle.model.specs.Claims.Grammar.{Word, Missing, Stale, BodyForm}
 
 -- ## What a book must be

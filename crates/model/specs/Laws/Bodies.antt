@@ -1,29 +1,28 @@
 -- A body that draws none of refusals 3, 6, 4 and 5 reads to what demand 3 supposes.
 use Prim.Native.Nat.{ℕ, zero, suc, _+_, _*_, _<_, _≤_}
-use mathlib.Core.Path.{_≡_, refl, sym, ap, _∙_, subst}
+use mathlib.Core.Path.{_≡_, refl, subst}
 use mathlib.Core.Logic.{_≢_}
 use mathlib.Core.Bool.{Bool, true, false, _&&_, cond}
-use mathlib.Core.Option.{Option, none, some}
-use mathlib.Core.List.{List, [], _∷_, _++_}
+use mathlib.Core.Option.{none, some}
+use mathlib.Core.List.{List, [], _∷_}
 use native.Mathlib.Omega.{arith}
 use native.Mathlib.Nat.{mul-le-mul-right, suc-mul}
 use lib.Dec.{ltb, leb}
 use borrow.Author.Tests.{ltb-true, leb-true}
-use lib.ListN.{length, getD, getElem?, take, drop, length-take, length-drop}
+use lib.ListN.{length, getD, getElem?, take, length-take, length-drop}
 use lib.Seq.{drop-cons}
-use Rattle.model.specs.Basics.{iter, All, AllPairs, tab}
-use Rattle.model.specs.Book.Syntax.{stale, Clean, QueryEntry, Var, Const, WriteVal, Entry, IncCounter, CurrentVal, Instr, Table, width, Rule}
-use Rattle.model.specs.Book.Layout.{Field, table, function, dst, column, divider, entries, writes, Form, formOf}
-use Rattle.model.specs.Book.Scan.{Draw, fine, three, Sizes, opcode, clean, upTo, tag, tagged, below}
-use Rattle.model.specs.Book.Decode.{part, entryOf, writeOf, entryAt, writeAt, entriesAt, writesAt, past, fieldPlace, instrAt, instrPlace, readTable, readRule, rowPlace}
+use Rattle.model.specs.Basics.{All}
+use Rattle.model.specs.Book.Syntax.{stale, Clean, WriteVal, Entry, IncCounter, CurrentVal, Instr}
+use Rattle.model.specs.Book.Layout.{entries, writes, formOf}
+use Rattle.model.specs.Book.Scan.{fine, three, Sizes, opcode, clean, tag, tagged}
+use Rattle.model.specs.Book.Decode.{part, entryOf, writeOf, entryAt, writeAt, entriesAt, writesAt, past, instrAt, instrPlace, readTable, readRule, rowPlace}
 use Rattle.model.specs.Book.Read.{repeated}
 use Rattle.model.specs.Check.{readsOf, entriesOf}
-use Rattle.model.specs.Claims.Refusals.{Repeats}
 use Rattle.model.specs.Laws.Supposed.{TableOk, CleanConst}
 use Rattle.model.specs.Laws.Logic.{and-split, All-append, All-at, all-pairs}
-use Rattle.model.specs.Laws.Lists.{all-tab, length-tab, below-suc}
+use Rattle.model.specs.Laws.Lists.{all-tab}
 use Rattle.model.specs.Laws.Rows.{repeated-none}
-use Rattle.model.specs.Laws.Scan.{clean-fine, upTo-fine, PairOk, FieldOk, FieldsOk, InstrOk, TableWords, RuleWords}
+use Rattle.model.specs.Laws.Scan.{clean-fine, PairOk, FieldOk, FieldsOk, TableWords, RuleWords}
 
 -- ## Parts of a book
 

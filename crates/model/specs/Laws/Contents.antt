@@ -1,18 +1,17 @@
 -- The contents: refusal 2 with no search, which entries are tables, counters, rules and steps, and that each body stands within the book.
-use Prim.Native.Nat.{ℕ, zero, suc, _+_, _*_, _-_, _<_, _≤_}
+use Prim.Native.Nat.{ℕ, zero, suc, _+_, _-_, _<_, _≤_}
 use mathlib.Core.Path.{_≡_, refl, sym, ap, _∙_, subst}
-use mathlib.Core.Logic.{_⊎_, inl, inr, _≢_}
 use mathlib.Core.Bool.{Bool, true, false, not}
-use mathlib.Core.Option.{Option, none, some}
-use mathlib.Core.List.{List, [], _∷_}
+use mathlib.Core.Option.{none}
+use mathlib.Core.List.{List}
 use native.Mathlib.Nat.{le-refl}
 use native.Mathlib.Omega.{arith}
 use lib.Dec.{eqb, leb, lit≤}
 use borrow.Author.Tests.{ltb-true, leb-true, leb-false, eqb-true, eqb-false, lt-ltb, le-leb, lt-leb, eq-eqb, ne-eqb, not-false}
-use lib.ListN.{length, getD}
-use Rattle.model.specs.Basics.{iter, when, found, least, howMany}
-use Rattle.model.specs.Book.Words.{Refusal, unless}
-use Rattle.model.specs.Book.Contents.{group, count, kindOf, groupOf, firstOf, endOf, members, begins, lastGroup, entryFits, countFits, contentsRefusal, tableCount, counterCount, ruleCount, stepCount, firstRule, firstStep}
+use lib.ListN.{length}
+use Rattle.model.specs.Basics.{least, howMany}
+use Rattle.model.specs.Book.Words.{unless}
+use Rattle.model.specs.Book.Contents.{group, count, kindOf, groupOf, firstOf, endOf, members, begins, entryFits, countFits, contentsRefusal, tableCount, counterCount, ruleCount, stepCount, firstRule, firstStep}
 use Rattle.model.specs.Claims.Refusals.{CountOk, EntryOk, EndOk}
 use Rattle.model.specs.Laws.Logic.{and-split, and-join, seq-none, unless-none, either, le-cases}
 use Rattle.model.specs.Laws.Lists.{below-suc, least-none}

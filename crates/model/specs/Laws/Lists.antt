@@ -1,14 +1,14 @@
 -- Laws of the searches by an index, and of lists made by one.
-use Prim.Native.Nat.{ℕ, zero, suc, _+_, _<_, _≤_}
+use Prim.Native.Nat.{ℕ, zero, suc, _<_}
 use mathlib.Core.Path.{_≡_, refl, sym, ap, _∙_, subst}
 use mathlib.Core.Bool.{Bool, true, false}
 use mathlib.Core.Option.{Option, none, some}
-use mathlib.Core.List.{List, [], _∷_, _++_}
+use mathlib.Core.List.{[], _∷_, _++_}
 use native.Mathlib.Omega.{arith}
 use lib.ListN.{length, getD, length-append, List·getD-append}
 use lib.Seq.{getD-append-seam}
-use Rattle.model.specs.Basics.{iter, found, only, All, firstSome, least, tab}
-use Rattle.model.specs.Laws.Logic.{some-inj, none-some, only-yes, only-no, else-none, else-some, either, le-cases, All-append}
+use Rattle.model.specs.Basics.{only, All, firstSome, least, tab}
+use Rattle.model.specs.Laws.Logic.{none-some, only-yes, only-no, else-none, else-some, either, le-cases, All-append}
 
 -- what holds below n and at n holds below suc n
 pub below-suc : {P : ℕ → Type 0} (n : ℕ) → ((i : ℕ) → i < n → P i) → P n → (i : ℕ) → i < suc n → P i

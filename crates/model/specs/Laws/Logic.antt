@@ -1,17 +1,17 @@
 -- Laws of the small combinators: tests, options, `All`, `AllPairs`.
-use Prim.Native.Nat.{ℕ, zero, suc, _+_, _≤_, _<_}
+use Prim.Native.Nat.{ℕ, zero, suc, _<_}
 use native.Mathlib.Nat.{not-suc-le-zero, le-of-suc-le-suc}
 use native.Mathlib.Omega.{arith}
 use native.Mathlib.Decide.{decLt}
-use mathlib.Core.Path.{_≡_, refl, sym, ap, _∙_, subst}
+use mathlib.Core.Path.{_≡_, refl, sym, subst}
 use mathlib.Core.Logic.{_⊎_, inl, inr}
 use mathlib.Core.Bool.{Bool, true, false, _&&_, _||_, not, false≢true}
 use mathlib.Core.Option.{Option, none, some}
-use mathlib.Core.List.{List, [], _∷_, _++_, map}
-use lib.Dec.{T, eqb, ltb, leb, eqb→eq, eqb-refl}
-use lib.ListN.{length, getD, getElem?, set, take, replicate, length-set}
+use mathlib.Core.List.{List, [], _∷_, _++_}
+use lib.Dec.{T, eqb, eqb→eq, eqb-refl}
+use lib.ListN.{length, getD, getElem?, set}
 use Rattle.model.specs.Book.Words.{Refusal, unless}
-use Rattle.model.specs.Basics.{iter, when, found, only, _else_, first, eqList, keepIf, All, AllPairs}
+use Rattle.model.specs.Basics.{when, found, only, _else_, eqList, All, AllPairs}
 
 -- ## Tests
 

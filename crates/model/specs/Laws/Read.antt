@@ -1,26 +1,23 @@
 -- The whole reading: a book that draws none of 2, 3, 6, 4, 5 and 11 reads to what demand 3 supposes.
 use Prim.Native.Nat.{ℕ, zero, suc, _+_, _*_, _<_, _≤_}
-use mathlib.Core.Path.{_≡_, refl, sym, ap, _∙_, subst}
+use mathlib.Core.Path.{_≡_, refl, sym, _∙_, subst}
 use mathlib.Core.Logic.{_⊎_, inl, inr, _≢_}
-use mathlib.Core.Bool.{Bool, true, false}
-use mathlib.Core.Option.{Option, none, some}
-use mathlib.Core.List.{List, [], _∷_}
+use mathlib.Core.Option.{none, some}
+use mathlib.Core.List.{List}
 use native.Mathlib.Omega.{arith}
-use lib.Dec.{eqb}
-use lib.ListN.{length, getD, getElem?, take}
-use Rattle.model.specs.Basics.{found, All, tab}
-use Rattle.model.specs.Book.Syntax.{stale, Clean, Counter, nextOf, limit, Const, WriteVal, Instr, Table, width, Rule, Step, batch, prediction, tableAt, ruleAt}
-use Rattle.model.specs.Book.Words.{Refusal}
+use lib.ListN.{length, getD, getElem?}
+use Rattle.model.specs.Basics.{All}
+use Rattle.model.specs.Book.Syntax.{stale, Clean, Instr, Rule}
 use Rattle.model.specs.Book.Contents.{group, count, kindOf, groupOf, firstOf, endOf, contentsRefusal, tableCount, counterCount, ruleCount, stepCount, firstRule, firstStep}
-use Rattle.model.specs.Book.Scan.{fine, Scan, bad, good, Sizes, tag, tagged, scan, scanTable, scanCounter, scanRule, scanBatch, scanPrediction}
-use Rattle.model.specs.Book.Decode.{part, writeOf, writeAt, writesAt, readTable, readCounter, readRule, readBatch, readPrediction, readStep}
+use Rattle.model.specs.Book.Scan.{fine, Scan, bad, good, Sizes, tag, tagged, scan}
+use Rattle.model.specs.Book.Decode.{writeOf, writeAt, readTable, readCounter, readRule, readBatch, readPrediction, readStep}
 use Rattle.model.specs.Book.Read.{drew3, drew6, drew4, repeated, rowsRefusal, sizes, walk, bodyRefusal, bodiesRefusal, tables, counters, rules, step, steps, stepsRefusal}
 use Rattle.model.specs.Claims.Refusals.{StepFits}
 use Rattle.model.specs.Laws.Logic.{seq-none, either, none-some}
 use Rattle.model.specs.Laws.Lists.{firstSome-none, all-tab, length-tab}
 use Rattle.model.specs.Laws.Steps.{steps-ok}
 use Rattle.model.specs.Laws.Contents.{ContentsOk, contents-ok, Inside, inside, is-table, is-counter, is-rule, is-step}
-use Rattle.model.specs.Laws.Scan.{clean-fine, PairOk, BatchWords, PredictionWords, table-words, counter-words, rule-words, batch-words, prediction-words}
+use Rattle.model.specs.Laws.Scan.{clean-fine, BatchWords, PredictionWords, table-words, counter-words, rule-words, batch-words, prediction-words}
 use Rattle.model.specs.Check.{readsOf}
 use Rattle.model.specs.Claims.Demand3.{Given, StepOk}
 use Rattle.model.specs.Laws.Supposed.{TableOk, CleanConst, CounterOk}

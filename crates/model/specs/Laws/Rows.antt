@@ -1,8 +1,8 @@
 -- Rows by key: what a search for a key found, and refusal 5 with no search.
-use Prim.Native.Nat.{ℕ, zero, suc, _+_, _<_, _≤_}
-use mathlib.Core.Path.{_≡_, refl, sym, ap, _∙_, subst}
+use Prim.Native.Nat.{ℕ, zero, suc, _<_}
+use mathlib.Core.Path.{_≡_, refl, sym, _∙_}
 use mathlib.Core.Logic.{_≢_}
-use mathlib.Core.Bool.{Bool, true, false, true≢false, false≢true}
+use mathlib.Core.Bool.{true, false, true≢false, false≢true}
 use mathlib.Core.Option.{Option, none, some}
 use mathlib.Core.List.{List, [], _∷_}
 use native.Mathlib.Omega.{arith}

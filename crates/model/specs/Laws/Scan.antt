@@ -1,18 +1,17 @@
 -- A walk that is not bad moves forward, stays in the body, ends where the fields say, and if it drew nothing, every word passed its test.
 use Prim.Native.Nat.{ℕ, zero, suc, _+_, _*_, _<_, _≤_}
 use mathlib.Core.Path.{_≡_, refl, sym, ap, _∙_, subst}
-use mathlib.Core.Logic.{_⊎_, inl, inr, ⊎-elim, _↔_, _≢_}
-use mathlib.Core.Bool.{Bool, true, false, not, _&&_, _||_, true≢false, false≢true, cond}
-use mathlib.Core.List.{List, [], _∷_, _++_}
+use mathlib.Core.Logic.{_≢_}
+use mathlib.Core.Bool.{Bool, true, false, cond}
+use mathlib.Core.List.{List, [], _∷_}
 use native.Mathlib.Omega.{arith}
-use native.Mathlib.Numerals.{add-one}
 use lib.Dec.{eqb, ltb, leb}
-use borrow.Author.Tests.{ltb-true, ltb-false, leb-true, leb-false, eqb-true, eqb-false}
-use lib.ListN.{length, getD, take}
+use borrow.Author.Tests.{ltb-true, leb-true, eqb-true, eqb-false}
+use lib.ListN.{getD}
 use Rattle.model.specs.Basics.{iter}
 use Rattle.model.specs.Laws.Lists.{below-suc}
-use Rattle.model.specs.Book.Layout.{Field, table, counter, function, dst, column, divider, entry, entries, writes, formOf}
-use Rattle.model.specs.Book.Scan.{Draw, fine, three, six, four, Scan, bad, good, _▹_, earliest, mark, require, Sizes, anyWord, below, upTo, clean, opcode, tag, tagged, peek, step, finish, left, word, list, block, pair, field, walk, instr, scanTable, scanCounter, scanRule, scanBatch, scanPrediction}
+use Rattle.model.specs.Book.Layout.{Field, table, counter, function, dst, column, divider, entry, entries, writes}
+use Rattle.model.specs.Book.Scan.{Draw, fine, three, six, four, Scan, bad, good, _▹_, earliest, mark, require, Sizes, anyWord, below, upTo, clean, opcode, tag, tagged, step, finish, left, word, list, block, pair, field, walk, instr, scanTable, scanCounter, scanRule, scanBatch, scanPrediction}
 use Rattle.model.specs.Book.Syntax.{stale}
 use Rattle.model.specs.Book.Decode.{after, past, fieldsAt, next, instrPlace}
 

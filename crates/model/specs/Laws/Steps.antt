@@ -1,14 +1,14 @@
 -- Refusal 11 with no test.
-use Prim.Native.Nat.{ℕ, zero, suc, _+_, _<_, _≤_}
-use mathlib.Core.Path.{_≡_, refl, sym, ap, _∙_}
-use mathlib.Core.Bool.{Bool, true, false, not, _||_}
-use mathlib.Core.Option.{Option, none, some}
-use mathlib.Core.List.{List, [], _∷_}
+use Prim.Native.Nat.{ℕ, zero, suc, _+_, _<_}
+use mathlib.Core.Path.{_≡_, refl}
+use mathlib.Core.Bool.{true, not, _||_}
+use mathlib.Core.Option.{none}
+use mathlib.Core.List.{List}
 use native.Mathlib.Omega.{arith}
 use lib.Dec.{eqb, ltb}
 use borrow.Author.Tests.{ltb-true, eqb-true, lt-ltb, eq-eqb, not-false}
 use lib.ListN.{length}
-use Rattle.model.specs.Basics.{found, least}
+use Rattle.model.specs.Basics.{least}
 use Rattle.model.specs.Book.Syntax.{Table, Rule, Step, batch, prediction}
 use Rattle.model.specs.Book.Contents.{stepCount, firstStep}
 use Rattle.model.specs.Book.Read.{tables, rules, step, stepFits, stepsRefusal}

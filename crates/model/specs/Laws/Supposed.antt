@@ -1,8 +1,8 @@
 -- What the proof of demand 3 supposes of a book that has been read; `Laws.Read` shows that a book which draws no refusal is such.
-use Prim.Native.Nat.{ℕ, _+_, _≤_, _<_}
+use Prim.Native.Nat.{ℕ, _≤_}
 use mathlib.Core.Path.{_≡_}
 use mathlib.Core.Logic.{_≢_}
-use mathlib.Core.Option.{Option, some}
+use mathlib.Core.Option.{some}
 use mathlib.Core.List.{List}
 use lib.ListN.{length, getElem?, take}
 use Rattle.model.specs.Basics.{All, AllPairs}

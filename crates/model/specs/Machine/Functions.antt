@@ -1,6 +1,6 @@
 -- The functions 0 to 7 that stand in for `ExternalFunction`.
-use Prim.Native.Nat.{ℕ, zero, suc, _+_, _-_, min, max}
-use mathlib.Core.Bool.{Bool, true, false, cond}
+use Prim.Native.Nat.{ℕ, _+_, _-_, min, max}
+use mathlib.Core.Bool.{Bool, cond}
 use mathlib.Core.Option.{Option, none, some}
 use mathlib.Core.List.{List, [], _∷_}
 use lib.Dec.{ltb, leb}

@@ -7,7 +7,7 @@ use lib.Dec.{eqb, leb}
 use lib.ListN.{length, getD, getElem?, take, drop, replicate}
 use Rattle.model.specs.Basics.{iter, when, found, only, first}
 use Rattle.model.specs.Book.Syntax.{stale, Counter, noCounter, nextOf, QueryEntry, WriteVal, Instr, LookupOrInsertDefault, LookupWithDefault, Lookup, LookupWithFallback, Insert, InsertIfEq, Remove, External, ExternalWithFallback, AssertEq, AssertNe, AssertAnyNe, ReadCounter, dstOf, Table, width, Rule, Step, batch, prediction, tableAt, ruleAt}
-use Rattle.model.specs.Machine.State.{State, Site, Record, Event, mask, reads, took, asks, going, stuck, spent, full, isGoing, Bindings, survivors, predicted, Env, stop, note, give, lose, withCounters, change, reply, frame, need, ifRoom, logWords}
+use Rattle.model.specs.Machine.State.{State, Site, Record, mask, reads, took, asks, going, stuck, spent, isGoing, Bindings, survivors, predicted, Env, stop, note, give, lose, withCounters, change, reply, frame, need, ifRoom, logWords}
 use Rattle.model.specs.Machine.Values.{bind, hold, valueOf, valuesOf, listOf, find, predictedRows, Built, isStuck, isSpent, built, build}
 
 abbrev pub here : ℕ → ℕ → ℕ → Site
