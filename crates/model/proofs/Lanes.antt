@@ -53,7 +53,7 @@ first-single (x ∷ y ∷ xs) r h e = absurd (omega arith)
 pub need-some : {A : Type 0} (P : State → Type 0) (o : Option A) (s : State) (k : A → State) (a : A) → o ≡ some a → P (k a) → P (need o s k)
 need-some P o s k a e p = rw e p
 
-room-ind : (P : State → Type 0) (b : Bool) (r : Record) (s : State) (k : State → State) → P (k (logged r s)) → P (stop full s) → P (ifRoom b r s k)
+pub room-ind : (P : State → Type 0) (b : Bool) (r : Record) (s : State) (k : State → State) → P (k (logged r s)) → P (stop full s) → P (ifRoom b r s k)
 room-ind P true r s k p q = p
 room-ind P false r s k p q = q
 

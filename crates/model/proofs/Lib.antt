@@ -27,3 +27,16 @@ mod RefusalsExact
 mod Computed
 mod Cases
 mod Decided
+mod Grown
+mod TraceTurns
+mod TracePasses
+mod Went
+mod Entries
+mod TraceBodies
+mod TraceRun
+mod TraceComes
+mod TraceAsks
+mod TraceComplete
+mod TraceNotes
+mod TraceReads
+mod TraceClaims

@@ -27,7 +27,7 @@ use Rattle.model.proofs.Lanes.{Lane, Settled, need-some, predict-ok, ta
 use Rattle.model.proofs.Bodies.{Filled, body-ok}
 use Rattle.model.proofs.CommitOk.{commit-ok}
 
-any-live : (l : List Bool) (i : ℕ) → T (getD l i false) → T (anyLive l)
+pub any-live : (l : List Bool) (i : ℕ) → T (getD l i false) → T (anyLive l)
 any-live [] i t = t
 any-live (b ∷ l) zero t = or-l b (anyLive l) t
 any-live (b ∷ l) (suc i) t = or-r b (anyLive l) (any-live l i t)
@@ -37,12 +37,12 @@ none-replicate zero i w e = none-some e
 none-replicate (suc n) zero w e = none-some e
 none-replicate (suc n) (suc i) w e = none-replicate n i w e
 
-out-column : (out : List (Option ℕ)) (i w : ℕ) → getD out i none ≡ some w → getElem? (map orStale out) i ≡ some w
+pub out-column : (out : List (Option ℕ)) (i w : ℕ) → getD out i none ≡ some w → getElem? (map orStale out) i ≡ some w
 out-column [] i w e = absurd (none-some e)
 out-column (o ∷ out) zero w e = ap (λ x. some (orStale x)) e
 out-column (o ∷ out) (suc i) w e = out-column out i w e
 
-bind-same : (d : ℕ) (c : List ℕ) (b : Bindings) (v : ℕ) → T (eqb v d) → bind d c b v ≡ some c
+pub bind-same : (d : ℕ) (c : List ℕ) (b : Bindings) (v : ℕ) → T (eqb v d) → bind d c b v ≡ some c
 bind-same d c b v t = ap (λ o. found o some (λ _. b v)) (only-T (eqb v d) (some c) t)
 
 bind-other : (d : ℕ) (c : List ℕ) (b : Bindings) (v : ℕ) → T (not (eqb v d)) → bind d c b v ≡ b v
