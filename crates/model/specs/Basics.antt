@@ -74,6 +74,6 @@ least p n = firstSome (λ i. only (p i) (some i)) n
 abbrev pub howMany : (ℕ → Bool) → ℕ → ℕ
 howMany p n = iter (λ i. when (p i) suc) n 0
 
-abbrev pub tab : {A : Type 0} → (ℕ → A) → ℕ → List A
+unfoldable pub tab : {A : Type 0} → (ℕ → A) → ℕ → List A
 tab f zero = []
 tab f (suc n) = tab f n ++ (f n ∷ [])

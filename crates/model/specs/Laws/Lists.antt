@@ -76,14 +76,17 @@ module _ (p : ℕ → Bool) (n : ℕ) where
 -- ## Lists by an index
 
 pub all-tab : {A : Type 0} (P : A → Type 0) (f : ℕ → A) (n : ℕ) → ((i : ℕ) → i < n → P (f i)) → All P (tab f n)
+unfolding tab
 all-tab P f zero h = tt
 all-tab P f (suc n) h = All-append P (tab f n) (f n ∷ []) (all-tab P f n (λ i l. h i (omega arith))) (h n (omega arith), tt)
 
 pub length-tab : {A : Type 0} (f : ℕ → A) (n : ℕ) → length (tab f n) ≡ n
+unfolding tab
 length-tab f zero = refl
 length-tab f (suc n) = length-append (tab f n) (f n ∷ []) ∙ omega (arith, length-tab f n)
 
 pub getD-tab : {A : Type 0} (f : ℕ → A) (n i : ℕ) (d : A) → i < n → getD (tab f n) i d ≡ f i
+unfolding tab
 getD-tab f zero i d h = absurd (omega arith)
 getD-tab f (suc n) i d h = either (λ l. before l (getD-tab f n i d l)) last (le-cases h)
   where

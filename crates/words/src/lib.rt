@@ -1,0 +1,78 @@
+// Words of a book of bytes, and whole buffers of words: read, cleared, copied.
+ghost use mathlib.Core.Path.{_≡_};
+ghost use mathlib.Core.List.{_++_};
+ghost use Prim.Native.Nat.{_+_, _*_, _≤_, _<_};
+ghost use lib.ListN.{length, getD, replicate};
+ghost use lib.Seq.{paste};
+ghost use Rattle.model.specs.Basics.{tab};
+ghost use Rattle.model.specs.Laws.Words.{wordAt};
+
+fn wide(x: u8) -> u32
+    ensures { λ r. ⌜ (r ≡ x) × (r < 256) ⌝ }
+{
+    x as u32
+}
+
+// The word whose first byte stands at 4 * i, low byte first.
+pub fn word_at(book: &[u8], i: usize) -> u32
+    requires { ⌜ 4 * i + 4 ≤ length (now book) ⌝ }
+    ensures { λ r. ⌜ r ≡ wordAt (now (book .entry)) i ⌝ }
+{
+    let at = 4 * i;
+    let a = wide(book[at]);
+    let b = wide(book[at + 1]);
+    let c = wide(book[at + 2]);
+    let d = wide(book[at + 3]);
+    a + 256 * b + 65536 * c + 16777216 * d
+}
+
+// All of `words` from the front of `book`.
+pub fn load(book: &[u8], words: &mut [u32])
+    requires { ⌜ 4 * length (now words) ≤ length (now book) ⌝ }
+    ensures { λ _. ⌜ now (words .exit) ≡ tab (wordAt (now (book .entry))) (length (now (words .entry))) ⌝ }
+{
+    let n = words.len();
+    let mut i = 0;
+    while i < n {
+        words[i] = word_at(book, i);
+        i += 1;
+    }
+}
+
+// The word at p, or 0 past the end.
+pub fn word(words: &[u32], p: usize) -> u32
+    ensures { λ r. ⌜ r ≡ getD (now (words .entry)) p 0 ⌝ }
+{
+    if p < words.len() { words[p] } else { 0 }
+}
+
+// A word as a size or a place.
+pub fn size(x: u32) -> usize
+    ensures { λ r. ⌜ (r ≡ x) × (r < 4294967296) ⌝ }
+{
+    x as usize
+}
+
+pub fn clear(buf: &mut [u32])
+    ensures { λ _. ⌜ now (buf .exit) ≡ replicate (length (now (buf .entry))) 0 ⌝ }
+{
+    let n = buf.len();
+    let mut i = 0;
+    while i < n {
+        buf[i] = 0;
+        i += 1;
+    }
+}
+
+// All of `src`, into `dst` from the word `at` on.
+pub fn copy(src: &[u32], dst: &mut [u32], at: usize)
+    requires { ⌜ at + length (now src) ≤ length (now dst) ⌝ }
+    ensures { λ _. ⌜ now (dst .exit) ≡ paste (now (dst .entry)) at (now (src .entry)) (length (now (src .entry))) ⌝ }
+{
+    let n = src.len();
+    let mut i = 0;
+    while i < n {
+        dst[at + i] = src[i];
+        i += 1;
+    }
+}
