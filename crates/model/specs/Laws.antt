@@ -1,5 +1,6 @@
 pub mod Logic
 pub mod Lists
+pub mod Iter
 pub mod Words
 pub mod Supposed
 pub mod Contents

@@ -1,0 +1,62 @@
+use Prim.Native.Nat.{_≤_, _-_}
+use mathlib.Core.Path.{_≡_, sym, ap, _∙_}
+use mathlib.Core.Logic.{⊎-elim}
+use native.Mathlib.Omega.{arith}
+use denote.Ref.{now}
+use Rattle.model.specs.Book.Contents.{group, members}
+use Rattle.contents.specs.ContentsLaws.{count-yes, count-no, count-small, none-counted}
+use borrow.Author.Needs.{needs}
+use Rattle.contents.proofs.members.Statement.{statement}
+use Rattle.contents.proofs.members.Tie as tie
+
+abbrev Inv-loop : tie.InvT-loop
+Inv-loop words n g c₀ i₀ c i = (i ≤ n) × (c ≡ members words g i)
+
+abbrev μ-loop : tie.MeasureT-loop
+μ-loop words n g c₀ i₀ c i = n - i
+
+loop-holds : tie.Need-loop-holds Inv-loop μ-loop
+loop-holds c = (search needs, none-counted _ _)
+
+kind-of-requires : tie.Need-kind-of-requires Inv-loop μ-loop
+kind-of-requires c κs = search needs
+
+group-requires : tie.Need-group-requires Inv-loop μ-loop
+group-requires c κs = search needs
+
+add-c : tie.Need-add-c Inv-loop μ-loop
+add-c c = let l = c .before .before .before .before .loop in omega (arith, count-small (now (c .before .before .before .before .before .before .args .words)) (c .before .before .before .before .before .before .args .g) (l .i) (l .c) (l .inv .1) (omega arith))
+
+add-i : tie.Need-add-i Inv-loop μ-loop
+add-i c = search needs
+
+loop-less : tie.Need-loop-less Inv-loop μ-loop
+loop-less c = search needs
+
+loop-again : tie.Need-loop-again Inv-loop μ-loop
+loop-again c =
+    let l = c .before .before .before .before .loop in
+    let e = c .before .group .ensures .0 ∙ ap group (c .before .before .kind-of .ensures) in (
+      search needs,
+      ⊎-elim (λ v. v .1 ∙ count-yes (now (c .before .before .before .before .before .before .args .words)) (c .before .before .before .before .before .before .args .g) (l .i) (l .c) (l .inv .1) (sym e ∙ v .0 .taken)) (λ v. v .1 ∙ count-no (now (c .before .before .before .before .before .before .args .words)) (c .before .before .before .before .before .before .args .g) (l .i) (l .c) (l .inv .1) (λ q. v .0 .left (e ∙ q))) (c .if1 .came),
+    )
+
+returns : tie.Need-returns Inv-loop μ-loop
+returns c =
+    let e : c .before .loop .i ≡ c .before .before .before .args .n = omega arith in
+    rw e at (c .before .loop .inv .1)
+
+pub members-spec : {M : Type 1} → statement M
+members-spec =
+    tie.close
+    (tie.spec
+    Inv-loop
+    μ-loop
+    loop-holds
+    kind-of-requires
+    group-requires
+    add-c
+    add-i
+    loop-less
+    loop-again
+    returns)

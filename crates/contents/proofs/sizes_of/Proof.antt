@@ -1,0 +1,42 @@
+use mathlib.Core.Path.{ap, _∙_}
+use denote.Ref.{now}
+use Rattle.model.specs.Book.Contents.{members}
+use borrow.Author.Needs.{needs}
+use Rattle.contents.proofs.sizes_of.Statement.{statement}
+use Rattle.contents.proofs.sizes_of.Tie as tie
+
+word-requires : tie.Need-word-requires
+word-requires c κs = search needs
+
+size-requires : tie.Need-size-requires
+size-requires c κs = search needs
+
+members-requires : tie.Need-members-requires
+members-requires c κs = search needs
+
+members-requires-2 : tie.Need-members-requires-2
+members-requires-2 c κs = search needs
+
+members-requires-3 : tie.Need-members-requires-3
+members-requires-3 c κs = search needs
+
+members-requires-4 : tie.Need-members-requires-4
+members-requires-4 c κs = search needs
+
+returns : tie.Need-returns
+returns c =
+    let w = now (c .before .before .before .before .before .before .before .args .words) in
+    let n = c .before .before .before .before .size .ensures .0 ∙ c .before .before .before .before .before .word .ensures in
+    record { tables = c .before .before .before .members .ensures ∙ ap (members w 1) n; counters = c .before .before .members2 .ensures ∙ ap (members w 2) n; rules = c .before .members3 .ensures ∙ ap (members w 3) n; steps = c .members4 .ensures ∙ ap (members w 4) n }
+
+pub sizes-of-spec : {M : Type 1} → statement M
+sizes-of-spec =
+    tie.close
+    (tie.spec
+    word-requires
+    size-requires
+    members-requires
+    members-requires-2
+    members-requires-3
+    members-requires-4
+    returns)
