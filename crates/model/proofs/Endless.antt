@@ -18,7 +18,7 @@ use Rattle.model.specs.Claims.Refusals.{after, Spends, SpentExact}
 use Rattle.model.specs.Laws.Logic.{at-length, at-below, when-ind, either, le-cases}
 use Rattle.model.proofs.Room.{withRoom, words-append, goes?, unanswered, Later}
 use Rattle.model.proofs.Follows.{settingOf, step-goes}
-use Rattle.model.proofs.Turns.{when-T}
+use Rattle.model.specs.Laws.Turns.{when-T}
 
 -- the log without end, and the log of L words
 abbrev pub endless : Env → Env

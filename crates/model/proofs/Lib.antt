@@ -1,15 +1,3 @@
-mod Rows
-mod Fetch
-mod Inv
-mod Lanes
-mod Passes
-mod Bodies
-mod Run
-mod CommitOk
-mod CheckExact
-mod Ghost
-mod Turns
-mod Instance
 mod Room
 mod Follows
 mod Endless
@@ -21,7 +9,6 @@ mod Drawn
 mod BodyFaults
 mod StageFaults
 mod RuleFaults
-mod BookClaims
 mod RunFaults
 mod RefusalsExact
 mod Computed

@@ -25,8 +25,8 @@ use Rattle.model.proofs.BodyFaults.{body-exact}
 use Rattle.model.proofs.StageFaults.{contents-exact, steps-exact}
 use Rattle.model.proofs.RuleFaults.{rules-exact}
 use Rattle.model.proofs.RunFaults.{run-exact, run-same}
-use Rattle.model.proofs.Instance.{functions-fine}
-use Rattle.model.proofs.BookClaims.{demand3, own-steps}
+use Rattle.model.specs.Safety.Instance.{functions-fine}
+use Rattle.model.specs.Safety.BookClaims.{demand3, own-steps}
 
 module _ (l : Lent) (book : List ℕ) (isBytes : All Byte book) where
   abbrev w : List ℕ

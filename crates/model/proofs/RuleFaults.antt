@@ -18,7 +18,7 @@ use Rattle.model.specs.Machine.Functions.{arity}
 use Rattle.model.specs.Outcome.{ruleFirst, ruleRefusal, rulesRefusal}
 use Rattle.model.specs.Claims.Refusals.{InRule, size, unbound, heldOut, column, AtRule, numberOf, rule, ruleOrder, Before}
 use Rattle.model.specs.Laws.Logic.{none-some, some-inj, either, at-length, at-below}
-use Rattle.model.proofs.CheckExact.{all→All, All→all, fits→, →fits, known→, →known, free→, →free, below→, →below, bound→, →bound}
+use Rattle.model.specs.Safety.CheckExact.{all→All, All→all, fits→, →fits, known→, →known, free→, →free, below→, →below, bound→, →bound}
 use Rattle.model.proofs.Exact.{Exact, exact-map, exact-first}
 
 -- ## One instruction

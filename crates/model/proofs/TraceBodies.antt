@@ -16,7 +16,7 @@ use Rattle.model.specs.Machine.Values.{hold, valuesOf, listOf, find}
 use Rattle.model.specs.Machine.Steps.{here, isLive, isNone, lanes, missed, wait, plain, tableOf, lookup, invoke, takeDefault, serveMissed, stageList, readPair, assertAnyNe, body}
 use Rattle.model.specs.Claims.Trace.{In, Misses}
 use Rattle.model.specs.Laws.Logic.{and-T, some-inj, when-ind, either}
-use Rattle.model.proofs.Lanes.{live-below}
+use Rattle.model.specs.Safety.Lanes.{live-below}
 use Rattle.model.proofs.Grown.{Longer, longer-trans, Grows, grows-refl, grows-trans, grows-map}
 use Rattle.model.proofs.TraceTurns.{moves-in, Own, own-map, Turn, turn-refl, turn-closed, Quiet, look-closed, call-closed, list-closed, pair-closed, any-closed, default-closed, serve-closed}
 use Rattle.model.proofs.TracePasses.{Apart, AtTurn, Later, turns, pass, pass-before, isMissed, lanes-later, lanes-at}

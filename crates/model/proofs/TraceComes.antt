@@ -14,7 +14,7 @@ use Rattle.model.specs.Machine.State.{State, Site, Event, mask, asks, is
 use Rattle.model.specs.Machine.Steps.{here, clear, bindOut, anyLive, begin, end, finish, body, instruction, instructions, step, run}
 use Rattle.model.specs.Claims.Trace.{In, Comes, pre, post}
 use Rattle.model.specs.Laws.Logic.{T-and, when-ind, at-below, either}
-use Rattle.model.proofs.Run.{any-live}
+use Rattle.model.specs.Safety.Run.{any-live}
 use Rattle.model.proofs.Grown.{newer-in, newer-cases, going-T, Grows, grows-refl, grows-trans, grows-note}
 use Rattle.model.proofs.TracePasses.{when-yes}
 use Rattle.model.proofs.TraceRun.{EventAt, GrowsAt, grows-at, instructions-grow, run-grows}

@@ -14,7 +14,7 @@ use Rattle.model.specs.Machine.State.{State, Site, Record, Event, mask, 
 use Rattle.model.specs.Machine.Steps.{here, isLive, isNone, lanes, missed}
 use Rattle.model.specs.Claims.Trace.{In}
 use Rattle.model.specs.Laws.Logic.{and-T, T-and, either, le-cases, when-cases}
-use Rattle.model.proofs.Lanes.{live-below}
+use Rattle.model.specs.Safety.Lanes.{live-below}
 use Rattle.model.proofs.Grown.{newer-cases}
 use Rattle.model.proofs.TraceTurns.{Moves, moves-refl, moves-trans, moves-map, Own, Turn, Quiet}
 

@@ -15,7 +15,7 @@ use Rattle.model.specs.Machine.Steps.{here, tableOf, wait, plain, clear,
 use Rattle.model.specs.Check.{entriesOf}
 use Rattle.model.specs.Claims.Trace.{In, LookupAt, lookupOf, readFirst, readThen, Misses, Goes}
 use Rattle.model.specs.Laws.Logic.{none-some, some-inj, either}
-use Rattle.model.proofs.Lanes.{live-below}
+use Rattle.model.specs.Safety.Lanes.{live-below}
 use Rattle.model.proofs.Grown.{in-cons, in-none, Longer, longer-trans, longer-new}
 use Rattle.model.proofs.Entries.{list-values, hold-value, hold-values, build-word}
 use Rattle.model.proofs.TraceTurns.{moves-in, moves-refl, Turn, Quiet}

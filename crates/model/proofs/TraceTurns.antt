@@ -15,8 +15,8 @@ use Rattle.model.specs.Machine.Steps.{tableOf, stageNew, rowStart, predi
 use Rattle.model.specs.Claims.Demand3.{Within}
 use Rattle.model.specs.Claims.Trace.{In}
 use Rattle.model.specs.Laws.Logic.{found-ind, when-ind}
-use Rattle.model.proofs.Inv.{set-within}
-use Rattle.model.proofs.Lanes.{room-ind}
+use Rattle.model.specs.Safety.Inv.{set-within}
+use Rattle.model.specs.Safety.Lanes.{room-ind}
 use Rattle.model.proofs.Grown.{in-there, newer-in, Grows, grows-refl, grows-trans, grows-note, grows-logged, grows-stop, grows-map}
 
 pub need-ind : {A : Type 0} (P : State → Type 0) (o : Option A) (s : State) (k : A → State) → P (stop stuck s) → ((a : A) → o ≡ some a → P (k a)) → P (need o s k)

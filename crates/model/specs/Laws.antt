@@ -9,3 +9,5 @@ pub mod Steps
 pub mod Scan
 pub mod Bodies
 pub mod Read
+pub mod Turns
+pub mod Passes

@@ -8,3 +8,4 @@ pub mod Outcome
 pub mod Printed
 pub mod Claims
 pub mod Laws
+pub mod Safety

@@ -18,9 +18,9 @@ use Rattle.model.specs.Check.{IsKnown, Below, entriesOf, currentsOf}
 use Rattle.model.specs.Claims.Demand3.{Within}
 use Rattle.model.specs.Laws.Supposed.{TableOk, CleanConst}
 use Rattle.model.specs.Laws.Logic.{and-T, some-inj, none-some, found-ind, when-ind, only-T, All-getD, All-zip}
-use Rattle.model.proofs.Rows.{rowsOf, steady-other, new-row, steady-row}
-use Rattle.model.proofs.Fetch.{Readable, entry-read, entries-read, list-read, But, hold-read, find-All, cell, BuiltOk, build-ok}
-use Rattle.model.proofs.Inv.{Inv, stop-inv, reads-inv, took-inv, asks-inv, counters-inv, give-inv, lose-inv, logged-inv, weaken, set-within, RowSized}
+use Rattle.model.specs.Safety.Rows.{rowsOf, steady-other, new-row, steady-row}
+use Rattle.model.specs.Safety.Fetch.{Readable, entry-read, entries-read, list-read, But, hold-read, find-All, cell, BuiltOk, build-ok}
+use Rattle.model.specs.Safety.Inv.{Inv, stop-inv, reads-inv, took-inv, asks-inv, counters-inv, give-inv, lose-inv, logged-inv, weaken, set-within, RowSized}
 
 -- ## Small facts
 

@@ -15,8 +15,8 @@ use Rattle.model.specs.Machine.Steps.{here}
 use Rattle.model.specs.Claims.Demand3.{Within, NoReturn, NotStale, OneRow, OtherSite}
 use Rattle.model.specs.Laws.Supposed.{CounterOk}
 use Rattle.model.specs.Laws.Logic.{All-map, All-append, All-all, AllPairs-snoc, some-inj, either, nil-cons}
-use Rattle.model.proofs.Rows.{rowsOf, Steady}
-use Rattle.model.proofs.Fetch.{Readable}
+use Rattle.model.specs.Safety.Rows.{rowsOf, Steady}
+use Rattle.model.specs.Safety.Fetch.{Readable}
 
 -- ## Sites
 

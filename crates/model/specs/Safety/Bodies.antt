@@ -15,10 +15,10 @@ use Rattle.model.specs.Machine.Steps.{here, tableOf, lookup, invoke, tak
 use Rattle.model.specs.Check.{Sound, sizesOf, readsOf, heldOf, columnsOf, IsKnown, entriesOf}
 use Rattle.model.specs.Laws.Supposed.{TableOk, CleanConst, CounterOk}
 use Rattle.model.specs.Laws.Logic.{none-some, when-ind, All-getD, All-left, All-right}
-use Rattle.model.proofs.Fetch.{But, hold-read, held-known}
-use Rattle.model.proofs.Inv.{Inv, weaken}
-use Rattle.model.proofs.Lanes.{Same, Lane, Done, Settled, wait-lane, lose-done, live-below, look-ok, call-ok, default-ok, two-ok, any-ok, insert-ok, serve-ok}
-use Rattle.model.proofs.Passes.{lane-trans, lanes-quiet, lanes-done, missed-done, lanes-stage, missed-stage, Filling}
+use Rattle.model.specs.Safety.Fetch.{But, hold-read, held-known}
+use Rattle.model.specs.Safety.Inv.{Inv, weaken}
+use Rattle.model.specs.Safety.Lanes.{Same, Lane, Done, Settled, wait-lane, lose-done, live-below, look-ok, call-ok, default-ok, two-ok, any-ok, insert-ok, serve-ok}
+use Rattle.model.specs.Safety.Passes.{lane-trans, lanes-quiet, lanes-done, missed-done, lanes-stage, missed-stage, Filling}
 
 some-below : (xs : List (Option ℕ)) (i : ℕ) {w : ℕ} → getD xs i none ≡ some w → i < length xs
 some-below [] i e = absurd (none-some e)

@@ -16,8 +16,8 @@ use Rattle.model.specs.Check.{check, checkInstr, sizesOf, readsOf, heldO
 use Rattle.model.specs.Claims.Demand3.{StepOk, Claims}
 use Rattle.model.specs.Laws.Supposed.{Accepted, CleanConst}
 use Rattle.model.specs.Laws.Logic.{some-inj, none-some, only-some, All-getD}
-use Rattle.model.proofs.CheckExact.{check→conditions}
-use Rattle.model.proofs.Run.{demand-read}
+use Rattle.model.specs.Safety.CheckExact.{check→conditions}
+use Rattle.model.specs.Safety.Run.{demand-read}
 
 abbrev Fine : (ℕ → ℕ → Option ℕ) → Type 0
 Fine g = (a b w : ℕ) → Clean a → Clean b → g a b ≡ some w → Clean w

@@ -11,8 +11,8 @@ use Rattle.model.specs.Basics.{iter, when}
 use Rattle.model.specs.Machine.State.{State, isGoing, Env}
 use Rattle.model.specs.Machine.Steps.{isLive, isNone, lanes, missed}
 use Rattle.model.specs.Laws.Logic.{and-T, T-and, either, le-cases, when-cases}
-use Rattle.model.proofs.Inv.{Inv, weaken}
-use Rattle.model.proofs.Lanes.{Lane, Done, Settled, live-below}
+use Rattle.model.specs.Safety.Inv.{Inv, weaken}
+use Rattle.model.specs.Safety.Lanes.{Lane, Done, Settled, live-below}
 
 module _ (E : Env) (K : ℕ → Type 0) (k j : ℕ) where
   pub lane-trans : (q q′ : ℕ) (s s′ s″ : State) → Lane E K k j q s s′ → Lane E K k j q′ s′ s″ → Lane E K k j q′ s s″

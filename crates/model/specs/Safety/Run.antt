@@ -19,13 +19,13 @@ use Rattle.model.specs.Commit.{commit}
 use Rattle.model.specs.Claims.Demand3.{Given, StepOk, NoReturn, NotStale, OneRow, Claims}
 use Rattle.model.specs.Laws.Supposed.{TableOk, CleanConst, CounterOk, RuleOk, Accepted, DemandRead}
 use Rattle.model.specs.Laws.Logic.{T-and, or-l, or-r, some-inj, none-some, found-ind, when-ind, only-T, All-map, All-at, All-getD, at-length, either, T-cases, when-cases}
-use Rattle.model.proofs.CheckExact.{known-cases}
-use Rattle.model.proofs.Rows.{rowsOf}
-use Rattle.model.proofs.Fetch.{Readable, find-All, BuiltOk, build-ok}
-use Rattle.model.proofs.Inv.{Inv, next-instr, next-step, Over, LogOk, moved, took-inv, asks-inv}
-use Rattle.model.proofs.Lanes.{Lane, Settled, need-some, predict-ok, table-ok}
-use Rattle.model.proofs.Bodies.{Filled, body-ok}
-use Rattle.model.proofs.CommitOk.{commit-ok}
+use Rattle.model.specs.Safety.CheckExact.{known-cases}
+use Rattle.model.specs.Safety.Rows.{rowsOf}
+use Rattle.model.specs.Safety.Fetch.{Readable, find-All, BuiltOk, build-ok}
+use Rattle.model.specs.Safety.Inv.{Inv, next-instr, next-step, Over, LogOk, moved, took-inv, asks-inv}
+use Rattle.model.specs.Safety.Lanes.{Lane, Settled, need-some, predict-ok, table-ok}
+use Rattle.model.specs.Safety.Bodies.{Filled, body-ok}
+use Rattle.model.specs.Safety.CommitOk.{commit-ok}
 
 pub any-live : (l : List Bool) (i : ℕ) → T (getD l i false) → T (anyLive l)
 any-live [] i t = t

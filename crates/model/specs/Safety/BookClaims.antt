@@ -20,8 +20,8 @@ use Rattle.model.specs.Laws.Lists.{firstSome-none, all-tab}
 use Rattle.model.specs.Laws.Words.{words-bounded}
 use Rattle.model.specs.Laws.Supposed.{RuleOk, Accepted}
 use Rattle.model.specs.Laws.Read.{tables-ok, counters-ok, rule-at, steps-all-ok}
-use Rattle.model.proofs.CheckExact.{check→conditions, conditions→check}
-use Rattle.model.proofs.Run.{demand-read}
+use Rattle.model.specs.Safety.CheckExact.{check→conditions, conditions→check}
+use Rattle.model.specs.Safety.Run.{demand-read}
 
 pub check-exact : CheckExact
 unfolding ruleRefusal

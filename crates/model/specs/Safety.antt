@@ -1,0 +1,11 @@
+pub mod Rows
+pub mod Fetch
+pub mod Inv
+pub mod Lanes
+pub mod Passes
+pub mod Bodies
+pub mod Run
+pub mod CommitOk
+pub mod CheckExact
+pub mod Instance
+pub mod BookClaims
