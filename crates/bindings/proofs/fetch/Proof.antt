@@ -1,0 +1,73 @@
+use Prim.Native.Nat.{ℕ, _+_, _-_, _*_, _≤_}
+use mathlib.Core.Path.{_≡_, ap}
+use mathlib.Core.List.{List}
+use native.Mathlib.Omega.{arith}
+use lib.ListN.{length, replicate}
+use denote.Ref.{now}
+use Rattle.words.specs.Filled.{filled, filled-none, filled-turn}
+use Rattle.bindings.specs.Columns.{valueAt, fetched}
+use borrow.Author.Needs.{needs}
+use Rattle.bindings.proofs.fetch.Statement.{statement}
+use Rattle.bindings.proofs.fetch.Tie as tie
+
+abbrev Inv-loop : tie.InvT-loop
+Inv-loop words bindings lane at count vals₀ i₀ vals i = (i ≤ count) × (length vals ≡ 16) × (vals ≡ filled (λ k. valueAt words bindings (lane .0) (at + 2 * k)) i (replicate 16 0))
+
+abbrev μ-loop : tie.MeasureT-loop
+μ-loop words bindings lane at count vals₀ i₀ vals i = count - i
+
+loop-holds : tie.Need-loop-holds Inv-loop μ-loop
+loop-holds c = (search needs, search needs, filled-none _ _)
+
+mul-value : tie.Need-mul-value Inv-loop μ-loop
+mul-value c = search needs
+
+add-value : tie.Need-add-value Inv-loop μ-loop
+add-value c = search needs
+
+value-requires : tie.Need-value-requires Inv-loop μ-loop
+value-requires c κs = search needs
+
+mul-vals : tie.Need-mul-vals Inv-loop μ-loop
+mul-vals c = search needs
+
+array-write-vals : tie.Need-array-write-vals Inv-loop μ-loop
+array-write-vals c = search needs
+
+add-i : tie.Need-add-i Inv-loop μ-loop
+add-i c = search needs
+
+loop-less : tie.Need-loop-less Inv-loop μ-loop
+loop-less c = search needs
+
+loop-again : tie.Need-loop-again Inv-loop μ-loop
+loop-again c =
+    let l = c .before .before .loop in
+    let a = c .before .before .before .before .before .args in
+    let f : ℕ → ℕ = λ (k : ℕ). valueAt (now (a .words)) (now (a .bindings)) (a .lane .0) (a .at + 2 * k) in
+    (search needs, search needs, filled-turn f (l .i) (replicate 16 0) (l .vals) _ 0 (l .inv .2) (c .value .ensures) (omega (arith, c .before .before .before .before .before .pre)))
+
+returns : tie.Need-returns Inv-loop μ-loop
+unfolding fetched
+returns c =
+    let l = c .before .loop in
+    let a = c .before .before .before .before .args in
+    let e : l .i ≡ a .count = omega arith in
+    ap (λ (x : List ℕ). record { vals = x; count = a .count }) (rw e at (l .inv .2))
+
+pub fetch-spec : {M : Type 1} → statement M
+fetch-spec =
+    tie.close
+    (tie.spec
+    Inv-loop
+    μ-loop
+    loop-holds
+    mul-value
+    add-value
+    value-requires
+    mul-vals
+    array-write-vals
+    add-i
+    loop-less
+    loop-again
+    returns)

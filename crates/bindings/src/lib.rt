@@ -1,0 +1,92 @@
+// The bindings of a batch: 32 columns of 256 lent words, variable v in lane i at 256 * v + i.
+use args::Args;
+use ids::Lane;
+use ids::Variable;
+ghost use mathlib.Core.Path.{_≡_};
+ghost use Prim.Native.Nat.{_+_, _*_, _^_, _≤_, _<_};
+ghost use lib.ListN.{length, getD, take};
+ghost use Rattle.bindings.specs.Columns.{valueAt, fetched, bound, loaded};
+
+// The word behind p, or 0 past the end.
+fn behind(words: &[u32], p: usize) -> u32
+    ensures { λ r. ⌜ r ≡ getD (now (words .entry)) (p + 1) 0 ⌝ }
+{
+    if p < words.len() {
+        words::word(words, p + 1)
+    } else {
+        0
+    }
+}
+
+// The word of a variable in a lane, or 0 past the end.
+fn variable(bindings: &[u32], v: Variable, lane: Lane) -> u32
+    ensures { λ r. ⌜ r ≡ getD (now (bindings .entry)) (256 * v .0 + lane .0) 0 ⌝ }
+{
+    let at = 256 * words::size(v.0);
+    let i = lane.0;
+    if i < bindings.len() {
+        words::word(bindings, at + i)
+    } else {
+        0
+    }
+}
+
+// What the entry whose tag stands at word p stands for in a lane: a variable, or the number itself.
+pub fn value(words: &[u32], bindings: &[u32], lane: Lane, p: usize) -> u32
+    ensures { λ r. ⌜ r ≡ valueAt (now (words .entry)) (now (bindings .entry)) (lane .0) p ⌝ }
+{
+    let tag = words::word(words, p);
+    let number = behind(words, p);
+    if tag == 0 {
+        return variable(bindings, Variable(number), lane);
+    }
+    number
+}
+
+// What `count` entries stand for in a lane; the first one's tag stands at word `at`.
+pub fn fetch(words: &[u32], bindings: &[u32], lane: Lane, at: usize, count: usize) -> Args
+    requires { ⌜ (count ≤ 16) × (at < 2 ^ 32) ⌝ }
+    ensures { λ r. ⌜ r ≡ fetched (now (words .entry)) (now (bindings .entry)) (lane .0) at count ⌝ }
+{
+    let mut vals = [0u32; 16];
+    let mut i = 0;
+    while i < count {
+        vals[i] = value(words, bindings, lane, at + 2 * i);
+        i += 1;
+    }
+    Args { vals, count }
+}
+
+// The word of a column in one of its lanes, or 0 past them.
+fn in_lane(column: &[u32], lanes: usize, i: usize) -> u32
+    ensures { λ r. ⌜ r ≡ getD (take lanes (now (column .entry))) i 0 ⌝ }
+{
+    if i < lanes { words::word(column, i) } else { 0 }
+}
+
+// The first `lanes` words of `column` become the column of dst, and zero the rest of it.
+pub fn bind(bindings: &mut [u32], dst: Variable, column: &[u32], lanes: usize)
+    requires { ⌜ 256 * dst .0 + 256 ≤ length (now bindings) ⌝ }
+    ensures { λ _. ⌜ now (bindings .exit) ≡ bound (dst .0) (take lanes (now (column .entry))) (now (bindings .entry)) ⌝ }
+{
+    let at = 256 * words::size(dst.0);
+    let mut i: usize = 0;
+    while i < 256 {
+        bindings[at + i] = in_lane(column, lanes, i);
+        i += 1;
+    }
+}
+
+// A batch's own columns: v of them, each of `lanes` words, from word `at` on.
+pub fn load(words: &[u32], at: usize, v: u32, lanes: usize, bindings: &mut [u32])
+    requires { ⌜ (at + v * lanes ≤ length (now words)) × (256 * v ≤ length (now bindings)) ⌝ }
+    ensures { λ _. ⌜ now (bindings .exit) ≡ loaded (now (words .entry)) at lanes v (now (bindings .entry)) ⌝ }
+{
+    let mut p = at;
+    let mut c: u32 = 0;
+    while c < v {
+        bind(bindings, Variable(c), &words[p..], lanes);
+        p += lanes;
+        c += 1;
+    }
+}

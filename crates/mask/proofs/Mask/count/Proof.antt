@@ -1,0 +1,67 @@
+use native.Mathlib.Numerals.{add-one}
+use mathlib.Core.Path.{_∙_, _≡_}
+use Prim.Native.Nat.{ℕ, suc, _-_, _≤_}
+use mathlib.Core.Logic.{⊎-elim}
+use mathlib.Core.Bool.{Bool, false}
+use native.Mathlib.Omega.{arith}
+use lib.ListN.{length, getD}
+use Rattle.model.specs.Basics.{when, howMany}
+use Rattle.model.specs.Laws.Iter.{iter-more}
+use Rattle.mask.specs.Masks.{count}
+use Rattle.mask.specs.MaskLaws.{howMany-le}
+use borrow.Author.Needs.{needs}
+use Rattle.mask.proofs.Mask.count.Statement.{statement}
+use Rattle.mask.proofs.Mask.count.Tie as tie
+
+abbrev Inv-loop : tie.InvT-loop
+Inv-loop self n₀ i₀ n i = (i ≤ 256) × (n ≡ howMany (λ k. getD (self .live) k false) i)
+
+abbrev μ-loop : tie.MeasureT-loop
+μ-loop self n₀ i₀ n i = 256 - i
+
+loop-holds : tie.Need-loop-holds Inv-loop μ-loop
+loop-holds c = search needs
+
+element-copy-out-if1 : tie.Need-element-copy-out-if1 Inv-loop μ-loop
+element-copy-out-if1 c = search needs
+
+add-n : tie.Need-add-n Inv-loop μ-loop
+add-n c =
+    let l = c .before .before .before .loop in
+    omega (arith, howMany-le (λ (k : ℕ). getD (c .before .before .before .before .args .t1 .live) k false) (l .i))
+
+add-i : tie.Need-add-i Inv-loop μ-loop
+add-i c = search needs
+
+loop-less : tie.Need-loop-less Inv-loop μ-loop
+loop-less c = search needs
+
+loop-again : tie.Need-loop-again Inv-loop μ-loop
+loop-again c =
+    let l = c .before .before .before .loop in
+    let m = c .before .before .before .before .args .t1 .live in
+    let p : ℕ → Bool = λ (k : ℕ). getD m k false in
+    (search needs, iter-more (λ k. when (p k) suc) (l .i) 0 (l .n) _ (l .inv .1) (⊎-elim (λ w. rw (w .0 .taken) (w .1 ∙ rw add-one)) (λ w. rw (w .0 .left) (w .1)) (c .if1 .came)))
+
+returns : tie.Need-returns Inv-loop μ-loop
+unfolding count
+returns c =
+    let l = c .before .loop in
+    let m = c .before .before .args .t1 .live in
+    let n : length m ≡ 256 = search needs in
+    let e : l .i ≡ length m = omega arith in
+    rw e at (l .inv .1)
+
+pub count-spec : {M : Type 1} → statement M
+count-spec =
+    tie.close
+    (tie.spec
+    Inv-loop
+    μ-loop
+    loop-holds
+    element-copy-out-if1
+    add-n
+    add-i
+    loop-less
+    loop-again
+    returns)

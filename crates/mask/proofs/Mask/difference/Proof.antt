@@ -1,0 +1,63 @@
+use Prim.Native.Nat.{_-_, _≤_}
+use mathlib.Core.Path.{_≡_}
+use mathlib.Core.Bool.{false}
+use native.Mathlib.Omega.{arith}
+use lib.ListN.{length, getD}
+use Rattle.words.specs.Filled.{filled, filled-none}
+use Rattle.mask.specs.Masks.{butNot}
+use Rattle.mask.specs.MaskLaws.{both-turn, both-all}
+use borrow.Author.Needs.{needs}
+use Rattle.mask.proofs.Mask.difference.Statement.{statement}
+use Rattle.mask.proofs.Mask.difference.Tie as tie
+
+abbrev Inv-loop : tie.InvT-loop
+Inv-loop self₀ other i₀ self i = (i ≤ 256) × (length (self .live) ≡ 256) × (self .live ≡ filled (λ k. butNot (getD (self₀ .live) k false) (getD (other .live) k false)) i (self₀ .live))
+
+abbrev μ-loop : tie.MeasureT-loop
+μ-loop self₀ other i₀ self i = 256 - i
+
+loop-holds : tie.Need-loop-holds Inv-loop μ-loop
+loop-holds c = (search needs, search needs, filled-none _ _)
+
+element-copy-out-self : tie.Need-element-copy-out-self Inv-loop μ-loop
+element-copy-out-self c = search needs
+
+element-copy-out-self-2 : tie.Need-element-copy-out-self-2 Inv-loop μ-loop
+element-copy-out-self-2 c = search needs
+
+element-write-self : tie.Need-element-write-self Inv-loop μ-loop
+element-write-self c = search needs
+
+add-i : tie.Need-add-i Inv-loop μ-loop
+add-i c = search needs
+
+loop-less : tie.Need-loop-less Inv-loop μ-loop
+loop-less c = search needs
+
+loop-again : tie.Need-loop-again Inv-loop μ-loop
+loop-again c =
+    let l = c .before .before .before .loop in
+    let a = c .before .before .before .before .args in
+    let n : length (a .t1 .live) ≡ 256 = search needs in
+    (search needs, search needs, both-turn butNot (a .t1 .live) (a .t2 .live) (l .self .live) (l .i) (l .inv .2) (omega arith))
+
+returns : tie.Need-returns Inv-loop μ-loop
+returns c =
+    let l = c .before .loop in
+    let a = c .before .before .args in
+    both-all butNot (a .t1 .live) (a .t2 .live) (l .self .live) (l .i) (l .inv .2) (search needs) (omega arith)
+
+pub difference-spec : {M : Type 1} → statement M
+difference-spec =
+    tie.close
+    (tie.spec
+    Inv-loop
+    μ-loop
+    loop-holds
+    element-copy-out-self
+    element-copy-out-self-2
+    element-write-self
+    add-i
+    loop-less
+    loop-again
+    returns)

@@ -1,0 +1,161 @@
+-- Laws of masks: what a lane is after each operation, and each operation on the marks of a batch.
+use Prim.Native.Nat.{ℕ, zero, suc, _+_, _-_, _≤_, _<_}
+use mathlib.Core.Path.{_≡_, refl, sym, ap, _∙_}
+use mathlib.Core.Logic.{_⊎_, inl, inr}
+use mathlib.Core.Bool.{Bool, true, false, _||_, not, cond}
+use mathlib.Core.List.{List, [], _∷_, _++_}
+use native.Mathlib.Omega.{arith}
+use native.Mathlib.Decide.{decLt}
+use native.Mathlib.Nat.{add-zero, add-suc}
+use lib.Dec.{eqb, ltb, eqb·suc-zero}
+use lib.ListN.{length, getD, set, replicate, length-append, length-set, length-replicate, getD-replicate, List·getD-eq-default}
+use lib.Seq.{ext-getD, set-append-left, getD-set-same, getD-set-other}
+use borrow.Author.Tests.{lt-ltb, le-ltb, eqb-true, eqb-false}
+use Rattle.model.specs.Basics.{when, howMany, tab}
+use Rattle.model.specs.Machine.Steps.{anyLive}
+use Rattle.model.specs.Laws.Logic.{either}
+use Rattle.model.specs.Laws.Lists.{length-tab, getD-tab}
+use Rattle.model.specs.Laws.Iter.{iter-agree}
+use Rattle.words.specs.Filled.{filled, filled-more, filled-all, getD-filled}
+use Rattle.mask.specs.Masks.{padded, firstLanes, both, count}
+
+lt-or-le : (i n : ℕ) → (i < n) ⊎ (n ≤ i)
+lt-or-le i n = elim (decLt i n) [ yes p ↦ inl p | no p ↦ inr (omega arith) ]
+
+-- ## What a lane is
+
+pub has-first : (n i : ℕ) → i < 256 → getD (firstLanes n) i false ≡ ltb i n
+unfolding firstLanes
+has-first n i h = getD-tab (λ i. ltb i n) 256 i false h
+
+-- with b for lane i: dropped or inserted
+pub has-set : (l : List Bool) (i j : ℕ) (b : Bool) → i < length l → getD (set l i b) j false ≡ cond (eqb j i) b (getD l j false)
+has-set l i j b h = by (eqb j i) refl
+  where
+    by : (c : Bool) → eqb j i ≡ c → getD (set l i b) j false ≡ cond c b (getD l j false)
+    by true e = rw (eqb-true j i e) (getD-set-same l i b false h)
+    by false e = getD-set-other l i j b false (eqb-false j i e)
+
+pub has-both : (f : Bool → Bool → Bool) (a b : List Bool) (i : ℕ) → i < 256 → getD (both f a b) i false ≡ f (getD a i false) (getD b i false)
+unfolding both
+has-both f a b i h = getD-tab (λ i. f (getD a i false) (getD b i false)) 256 i false h
+
+none-false : (k i : ℕ) → getD (replicate k false) i false ≡ false
+none-false zero i = refl
+none-false (suc k) zero = refl
+none-false (suc k) (suc i) = none-false k i
+
+pub has-padded : (l : List Bool) (i : ℕ) → getD (padded l) i false ≡ getD l i false
+unfolding padded
+has-padded l i = more l (256 - length l) i
+  where
+    more : (l : List Bool) (k i : ℕ) → getD (l ++ replicate k false) i false ≡ getD l i false
+    more [] k i = none-false k i
+    more (b ∷ l) k zero = refl
+    more (b ∷ l) k (suc i) = more l k i
+
+-- ## The marks of a batch
+
+pub length-padded : (l : List Bool) → length l ≤ 256 → length (padded l) ≡ 256
+unfolding padded
+length-padded l h = simp (length-append, length-replicate) (omega arith)
+
+-- a mask whose lanes are those of l
+pub is-padded : (m l : List Bool) → length l ≤ 256 → length m ≡ 256 → ((i : ℕ) → i < 256 → getD m i false ≡ getD l i false) → m ≡ padded l
+is-padded m l h e at = ext-getD false m (padded l) (e ∙ sym (length-padded l h)) (λ i k. at i (omega arith) ∙ sym (has-padded l i))
+
+pub set-padded : (l : List Bool) (i : ℕ) (b : Bool) → i < length l → set (padded l) i b ≡ padded (set l i b)
+unfolding padded
+set-padded l i b h = rw (length-set, set-append-left l (replicate (256 - length l) false) i b h)
+
+all-true : (n i : ℕ) → getD (replicate n true) i false ≡ ltb i n
+all-true n i = either (λ h. getD-replicate n i true false h ∙ sym (lt-ltb i n h)) (λ h. List·getD-eq-default (replicate n true) false {n = i} (rw length-replicate h) ∙ sym (le-ltb i n h)) (lt-or-le i n)
+
+pub first-padded : (n : ℕ) → n ≤ 256 → firstLanes n ≡ padded (replicate n true)
+unfolding firstLanes
+first-padded n h = is-padded (firstLanes n) (replicate n true) (rw length-replicate h) (length-tab (λ i. ltb i n) 256) (λ i k. has-first n i k ∙ sym (all-true n i))
+
+-- none of n lanes
+pub none-padded : (n : ℕ) → n ≤ 256 → firstLanes 0 ≡ padded (replicate n false)
+unfolding firstLanes
+none-padded n h = is-padded (firstLanes 0) (replicate n false) (rw length-replicate h) (length-tab (λ i. ltb i 0) 256) (λ i k. has-first 0 i k ∙ le-ltb i 0 (omega arith) ∙ sym (none-false n i))
+
+pub both-padded : (f : Bool → Bool → Bool) (a b : List Bool) (n : ℕ) → f false false ≡ false → length a ≡ n → length b ≡ n → n ≤ 256 → both f (padded a) (padded b) ≡ padded (tab (λ i. f (getD a i false) (getD b i false)) n)
+unfolding both
+both-padded f a b n e ha hb h = is-padded (both f (padded a) (padded b)) (tab g n) (rw length-tab h) (length-tab (λ i. f (getD (padded a) i false) (getD (padded b) i false)) 256) same
+  where
+    g : ℕ → Bool
+    g i = f (getD a i false) (getD b i false)
+
+    past : (i : ℕ) → n ≤ i → g i ≡ getD (tab g n) i false
+    past i k = rw (List·getD-eq-default a false {n = i} (omega arith), List·getD-eq-default b false {n = i} (omega arith), List·getD-eq-default (tab g n) false {n = i} (rw length-tab k)) e
+
+    same : (i : ℕ) → i < 256 → getD (both f (padded a) (padded b)) i false ≡ getD (tab g n) i false
+    same i k = has-both f (padded a) (padded b) i k ∙ rw (has-padded a i, has-padded b i) (either (λ l. sym (getD-tab g n i false l)) (past i) (lt-or-le i n))
+
+-- ## How many, and whether any
+
+pub howMany-le : (p : ℕ → Bool) (n : ℕ) → howMany p n ≤ n
+howMany-le p zero = omega arith
+howMany-le p (suc n) = up (p n) (howMany p n) (howMany-le p n)
+  where
+    up : (b : Bool) (x : ℕ) → x ≤ n → when b suc x ≤ suc n
+    up true x h = omega arith
+    up false x h = omega arith
+
+howMany-past : (p : ℕ → Bool) (n k : ℕ) → ((i : ℕ) → n ≤ i → p i ≡ false) → howMany p (n + k) ≡ howMany p n
+howMany-past p n zero h = rw add-zero
+howMany-past p n (suc k) h = rw (add-suc, h (n + k) (omega arith)) (howMany-past p n k h)
+
+pub count-padded : (l : List Bool) → length l ≤ 256 → count (padded l) ≡ howMany (λ i. getD l i false) (length l)
+unfolding count
+count-padded l h =
+    let e : length (padded l) ≡ length l + (256 - length l) = omega (arith, length-padded l h) in
+    ap (λ (n : ℕ). howMany (λ i. getD (padded l) i false) n) e
+    ∙ iter-agree _ (λ i. when (getD l i false) suc) (length l + (256 - length l)) 0 (λ i a _. rw has-padded)
+    ∙ howMany-past (λ i. getD l i false) (length l) (256 - length l) (λ i k. List·getD-eq-default l false {n = i} k)
+
+swap : (a b : Bool) (x : ℕ) → when a suc (when b suc x) ≡ when b suc (when a suc x)
+swap true true x = refl
+swap true false x = refl
+swap false true x = refl
+swap false false x = refl
+
+howMany-front : (p : ℕ → Bool) (n : ℕ) → howMany p (suc n) ≡ when (p 0) suc (howMany (λ i. p (suc i)) n)
+howMany-front p zero = refl
+howMany-front p (suc n) = ap (when (p (suc n)) suc) (howMany-front p n) ∙ swap (p (suc n)) (p 0) (howMany (λ i. p (suc i)) n)
+
+-- empty: no lane is live
+pub count-none : (l : List Bool) → eqb (count l) 0 ≡ not (anyLive l)
+unfolding count
+count-none [] = refl
+count-none (b ∷ l) = rw (howMany-front (λ i. getD (b ∷ l) i false) (length l)) (by b (count-none l))
+  where
+    by : (b : Bool) → eqb (count l) 0 ≡ not (anyLive l) → eqb (when b suc (count l)) 0 ≡ not (b || anyLive l)
+    by true e = eqb·suc-zero (count l)
+    by false e = e
+
+pub any-padded : (l : List Bool) → anyLive (padded l) ≡ anyLive l
+unfolding padded
+any-padded l = more l (256 - length l)
+  where
+    more : (l : List Bool) (k : ℕ) → anyLive (l ++ replicate k false) ≡ anyLive l
+    more [] zero = refl
+    more [] (suc k) = more [] k
+    more (b ∷ l) k = ap (λ (c : Bool). b || c) (more l k)
+
+-- ## The loops
+
+-- a turn of a loop that puts f of two masks in place of the first
+pub both-turn : (f : Bool → Bool → Bool) (a b cur : List Bool) (i : ℕ) → cur ≡ filled (λ k. f (getD a k false) (getD b k false)) i a → i < length a
+    → set cur i (f (getD cur i false) (getD b i false)) ≡ filled (λ k. f (getD a k false) (getD b k false)) (i + 1) a
+both-turn f a b cur i e h =
+    let g : ℕ → Bool = λ (k : ℕ). f (getD a k false) (getD b k false) in
+    rw (e, getD-filled g i a false) (filled-more g i a false h)
+
+pub both-all : (f : Bool → Bool → Bool) (a b cur : List Bool) (i : ℕ) → cur ≡ filled (λ k. f (getD a k false) (getD b k false)) i a → length a ≡ 256 → i ≡ 256 → cur ≡ both f a b
+unfolding both
+both-all f a b cur i e n h =
+    let g : ℕ → Bool = λ (k : ℕ). f (getD a k false) (getD b k false) in
+    let k : i ≡ length a = omega arith in
+    e ∙ rw k (filled-all g a) ∙ ap (tab g) n

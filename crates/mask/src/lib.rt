@@ -1,0 +1,103 @@
+// Which lanes of a batch are live: a mask by value, with a mark for each of 256 lanes.
+use ids::Lane;
+ghost use mathlib.Core.Path.{_≡_};
+ghost use mathlib.Core.Bool.{true, false, not};
+ghost use lib.ListN.{getD, set};
+ghost use Rattle.model.specs.Machine.Steps.{anyLive};
+ghost use Rattle.mask.specs.Masks.{firstLanes, united, without, count};
+
+pub struct Mask {
+    pub live: [bool; 256],
+}
+
+impl Mask {
+    // The first `lanes` lanes; with 0, a mask to collect lanes in.
+    pub fn new(lanes: usize) -> Self
+        ensures { λ r. ⌜ r .live ≡ firstLanes lanes ⌝ }
+    {
+        let mut live = [false; 256];
+        let mut i = 0;
+        while i < 256 {
+            live[i] = i < lanes;
+            i += 1;
+        }
+        Mask { live }
+    }
+
+    // Whether a lane is live. No lane past 255 is.
+    pub fn has(self, lane: Lane) -> bool
+        ensures { λ r. ⌜ r ≡ getD (self .live) (lane .0) false ⌝ }
+    {
+        let i = lane.0;
+        if i < 256 { self.live[i] } else { false }
+    }
+
+    // Without a lane.
+    pub fn drop(mut self, lane: Lane) -> Self
+        ensures { λ r. ⌜ r .live ≡ set (self .live) (lane .0) false ⌝ }
+    {
+        let i = lane.0;
+        if i < 256 {
+            self.live[i] = false;
+            return self;
+        }
+        self
+    }
+
+    // With a lane.
+    pub fn insert(mut self, lane: Lane) -> Self
+        ensures { λ r. ⌜ r .live ≡ set (self .live) (lane .0) true ⌝ }
+    {
+        let i = lane.0;
+        if i < 256 {
+            self.live[i] = true;
+            return self;
+        }
+        self
+    }
+
+    // The lanes of either.
+    pub fn union(mut self, other: Mask) -> Self
+        ensures { λ r. ⌜ r .live ≡ united (self .live) (other .live) ⌝ }
+    {
+        let mut i = 0;
+        while i < 256 {
+            self.live[i] = self.live[i] | other.live[i];
+            i += 1;
+        }
+        self
+    }
+
+    // The lanes that `other` does not have.
+    pub fn difference(mut self, other: Mask) -> Self
+        ensures { λ r. ⌜ r .live ≡ without (self .live) (other .live) ⌝ }
+    {
+        let mut i = 0;
+        while i < 256 {
+            self.live[i] = self.live[i] & !other.live[i];
+            i += 1;
+        }
+        self
+    }
+
+    // How many lanes are live.
+    pub fn count(self) -> usize
+        ensures { λ r. ⌜ r ≡ count (self .live) ⌝ }
+    {
+        let mut n = 0;
+        let mut i = 0;
+        while i < 256 {
+            if self.live[i] {
+                n += 1;
+            }
+            i += 1;
+        }
+        n
+    }
+
+    pub fn is_empty(self) -> bool
+        ensures { λ r. ⌜ r ≡ not (anyLive (self .live)) ⌝ }
+    {
+        self.count() == 0
+    }
+}
