@@ -19,7 +19,7 @@ fn behind(words: &[u32], p: usize) -> u32
 }
 
 // The word of a variable in a lane, or 0 past the end.
-fn variable(bindings: &[u32], v: Variable, lane: Lane) -> u32
+pub fn variable(bindings: &[u32], v: Variable, lane: Lane) -> u32
     ensures { λ r. ⌜ r ≡ getD (now (bindings .entry)) (256 * v .0 + lane .0) 0 ⌝ }
 {
     let at = 256 * words::size(v.0);

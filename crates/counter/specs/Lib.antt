@@ -1,0 +1,2 @@
+pub mod Counter
+pub mod CounterLaws

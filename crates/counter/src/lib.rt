@@ -1,0 +1,76 @@
+// Counters: each hands out its next number and goes up by one, until it is spent.
+ghost use mathlib.Core.Path.{_≡_};
+ghost use lib.ListN.{getD, set};
+ghost use Rattle.model.specs.Machine.Values.{draw};
+ghost use Rattle.counter.specs.Counter.{drawnOf, Hands};
+
+pub struct Counter {
+    pub next: u32,
+}
+
+// What a counter hands out and how it goes on; or it is spent.
+pub enum Drawn {
+    Next(u32, Counter),
+    Spent,
+}
+
+impl Counter {
+    // Its next comes up to 4294967294, the last number before the stale mark, and is then spent.
+    pub fn inc(self) -> Drawn
+        ensures { λ r. ⌜ drawnOf r ≡ draw (self .next) ⌝ }
+    {
+        let next = self.next;
+        if next < 4294967294 {
+            Drawn::Next(next, Counter { next: next + 1 })
+        } else {
+            Drawn::Spent
+        }
+    }
+}
+
+// The counters of a book, 0 past the last.
+pub struct Counters {
+    pub next: [u32; 16],
+}
+
+// What one of the counters hands out, and the counters after it.
+pub struct Handed {
+    pub drawn: Drawn,
+    pub counters: Counters,
+}
+
+impl Counters {
+    pub fn read(self, c: ids::CounterId) -> u32
+        ensures { λ r. ⌜ r ≡ getD (self .next) (c .0) 0 ⌝ }
+    {
+        let i = c.0 as usize;
+        if i < 16 { self.next[i] } else { 0 }
+    }
+
+    // Past the last there is nothing to set.
+    pub fn set(mut self, c: ids::CounterId, to: Counter) -> Self
+        ensures { λ r. ⌜ r ≡ record { next = set (self .next) (c .0) (to .next) } ⌝ }
+    {
+        let i = c.0 as usize;
+        if i < 16 {
+            self.next[i] = to.next;
+        }
+        self
+    }
+
+    pub fn inc(self, c: ids::CounterId) -> Handed
+        ensures { λ r. ⌜ Hands (self .next) (c .0) r ⌝ }
+    {
+        let counter = Counter { next: self.read(c) };
+        match counter.inc() {
+            Drawn::Next(x, to) => Handed {
+                drawn: Drawn::Next(x, to),
+                counters: self.set(c, to),
+            },
+            Drawn::Spent => Handed {
+                drawn: Drawn::Spent,
+                counters: self,
+            },
+        }
+    }
+}

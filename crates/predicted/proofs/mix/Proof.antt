@@ -1,0 +1,17 @@
+use mathlib.Core.Path.{ap, _∙_}
+use Rattle.predicted.specs.Home.{spun}
+use borrow.Author.Needs.{needs}
+use Rattle.predicted.proofs.mix.Statement.{statement}
+use Rattle.predicted.proofs.mix.Tie as tie
+
+wrapping-add-u32-requires : tie.Need-wrapping-add-u32-requires
+wrapping-add-u32-requires c κs = search needs
+
+spin-requires : tie.Need-spin-requires
+spin-requires c κs = search needs
+
+returns : tie.Need-returns
+returns c = c .spin .ensures ∙ ap spun (c .before .wrapping-add-u32 .ensures)
+
+pub mix-spec : {M : Type 1} → statement M
+mix-spec = tie.close (tie.spec wrapping-add-u32-requires spin-requires returns)

@@ -1,0 +1,87 @@
+use mathlib.Core.Path.{_≡_, sym, _∙_}
+use Prim.Native.Nat.{_≤_, _<_, _-_}
+use native.Mathlib.Nat.{sub-zero}
+use native.Mathlib.Omega.{arith}
+use denote.Ref.{now}
+use Rattle.predicted.specs.Index.{probed, answers}
+use Rattle.predicted.specs.IndexLaws.{probe-free, probe-hit, probe-on, probe-none}
+use borrow.Author.Needs.{needs}
+use Rattle.predicted.proofs.probe.Statement.{statement}
+use Rattle.predicted.proofs.probe.Tie as tie
+
+abbrev Inv-loop : tie.InvT-loop
+Inv-loop index log table key k home s₀ j₀ s j = (j ≤ 8192) × (s < 8192) × (probed index (answers log (table .0) key k) 8192 home ≡ probed index (answers log (table .0) key k) (8192 - j) s)
+
+abbrev μ-loop : tie.MeasureT-loop
+μ-loop index log table key k home s₀ j₀ s j = 8192 - j
+
+loop-holds : tie.Need-loop-holds Inv-loop μ-loop
+loop-holds c = (search needs, search needs, rw sub-zero)
+
+mul-v : tie.Need-mul-v Inv-loop μ-loop
+mul-v c = search needs
+
+shared-slice-read-v : tie.Need-shared-slice-read-v Inv-loop μ-loop
+shared-slice-read-v c = search needs
+
+cast-v : tie.Need-cast-v Inv-loop μ-loop
+cast-v c = omega (arith, c .shared-slice-known3 .given (c .before .before .loop .s))
+
+returns : tie.Need-returns Inv-loop μ-loop
+returns c =
+    let l = c .before .before .before .loop in
+    let a = c .before .before .before .before .before .before .args in
+    sym (l .inv .2 ∙ probe-free (now (a .index)) (answers (now (a .log)) (a .table .0) (now (a .key)) (a .k)) 8192 (l .j) (l .s) (c .before .before .loop-test .taken) (c .if1 .taken))
+
+stands-requires : tie.Need-stands-requires Inv-loop μ-loop
+stands-requires c κs = omega (arith, c .before .shared-slice-known3 .given (c .before .before .before .loop .s), c .before .before .before .before .before .before .pre)
+
+sub-t15 : tie.Need-sub-t15 Inv-loop μ-loop
+sub-t15 c = search needs
+
+returns-2 : tie.Need-returns-2 Inv-loop μ-loop
+returns-2 c =
+    let l = c .before .before .before .before .before .loop in
+    let a = c .before .before .before .before .before .before .before .before .args in
+    sym (l .inv .2 ∙ probe-hit (now (a .index)) (answers (now (a .log)) (a .table .0) (now (a .key)) (a .k)) 8192 (l .j) (l .s) (c .before .before .before .before .loop-test .taken) (c .before .before .if1 .left) (sym (c .before .stands .ensures) ∙ c .if2 .taken))
+
+next-requires : tie.Need-next-requires Inv-loop μ-loop
+next-requires c κs = search needs
+
+add-j : tie.Need-add-j Inv-loop μ-loop
+add-j c = search needs
+
+loop-less : tie.Need-loop-less Inv-loop μ-loop
+loop-less c = search needs
+
+loop-again : tie.Need-loop-again Inv-loop μ-loop
+loop-again c =
+    let l = c .before .before .before .before .before .before .loop in
+    let a = c .before .before .before .before .before .before .before .before .before .args in
+    (search needs, search needs, l .inv .2 ∙ probe-on (now (a .index)) (answers (now (a .log)) (a .table .0) (now (a .key)) (a .k)) 8192 (l .j) (l .s) (c .before .before .before .before .before .loop-test .taken) (c .before .before .before .if1 .left) (sym (c .before .before .stands .ensures) ∙ c .before .if2 .left) ∙ rw (c .next .ensures .0))
+
+returns-3 : tie.Need-returns-3 Inv-loop μ-loop
+returns-3 c =
+    let l = c .before .loop in
+    let a = c .before .before .before .before .args in
+    sym (l .inv .2 ∙ probe-none (now (a .index)) (answers (now (a .log)) (a .table .0) (now (a .key)) (a .k)) 8192 (l .j) (l .s) (omega arith))
+
+pub probe-spec : {M : Type 1} → statement M
+probe-spec =
+    tie.close
+    (tie.spec
+    Inv-loop
+    μ-loop
+    loop-holds
+    mul-v
+    shared-slice-read-v
+    cast-v
+    returns
+    stands-requires
+    sub-t15
+    returns-2
+    next-requires
+    add-j
+    loop-less
+    loop-again
+    returns-3)

@@ -1,0 +1,97 @@
+// The tables of a book: their sizes, their rows by key, and a row as a part of the words that hold it.
+ghost use mathlib.Core.Path.{_≡_};
+ghost use Prim.Native.Nat.{_+_, _≤_, _<_};
+ghost use lib.ListN.{length, getD};
+ghost use Rattle.tables.specs.Tables.{infoOf, sameWords, Stands, foundRow, rowOf, Holds};
+
+// A table's key count, the words of a row, its merge rule, its row count, and the word of its first row.
+pub struct TableInfo {
+    pub keys: usize,
+    pub width: usize,
+    pub merge: u32,
+    pub rows: usize,
+    pub at: usize,
+}
+
+// The word at which the row with a key begins.
+pub enum Found {
+    At(usize),
+    Nothing,
+}
+
+// The word at which a row begins, of the table's words or of the log's.
+pub enum Place {
+    InTable(usize),
+    InLog(usize),
+}
+
+// The word at p as a size or a place, 0 past the end.
+fn size_at(words: &[u32], p: usize) -> usize
+    ensures { λ r. ⌜ (r ≡ getD (now (words .entry)) p 0) × (r < 4294967296) ⌝ }
+{
+    words::size(words::word(words, p))
+}
+
+// Read from the book's words; of what is no table it says something or other.
+pub fn info_of(words: &[u32], t: ids::TableId) -> TableInfo
+    ensures { λ r. ⌜ r ≡ infoOf (now (words .entry)) (t .0) ⌝ }
+{
+    let body = size_at(words, 2 + 3 * words::size(t.0));
+    let keys = size_at(words, body);
+    let vals = size_at(words, body + 1);
+    let merge = words::word(words, body + 2);
+    let rows = size_at(words, body + 3);
+    TableInfo {
+        keys,
+        width: keys + vals,
+        merge,
+        rows,
+        at: body + 4,
+    }
+}
+
+// Whether the k words from `at` on are the first k of the key.
+pub fn same_words(rows: &[u32], at: usize, key: &[u32; 16], k: usize) -> bool
+    requires { ⌜ (at + k ≤ length (now rows)) × (k ≤ 16) ⌝ }
+    ensures { λ r. ⌜ r ≡ sameWords (now (rows .entry)) at (now (key .entry)) k ⌝ }
+{
+    let mut i = 0;
+    while i < k {
+        if rows[at + i] != key[i] {
+            return false;
+        }
+        i += 1;
+    }
+    true
+}
+
+// The committed row with the key.
+pub fn find(words: &[u32], info: TableInfo, key: &[u32; 16]) -> Found
+    requires { ⌜ Stands (now words) info ⌝ }
+    ensures { λ r. ⌜ r ≡ foundRow (now (words .entry)) info (now (key .entry)) ⌝ }
+{
+    let k = info.keys;
+    let width = info.width;
+    let rows = info.rows;
+    let mut at = info.at;
+    let mut i = 0;
+    while i < rows {
+        if same_words(words, at, key, k) {
+            return Found::At(at);
+        }
+        at += width;
+        i += 1;
+    }
+    Found::Nothing
+}
+
+// The row's words, as a part of whichever words hold it.
+pub fn row_of<'a>(table: &'a [u32], log: &'a [u32], width: usize, at: Place) -> &'a [u32]
+    requires { ⌜ Holds (now table) (now log) width at ⌝ }
+    ensures { λ r. ⌜ now r ≡ rowOf (now (table .entry)) (now (log .entry)) width at ⌝ }
+{
+    match at {
+        Place::InTable(p) => &table[p..p + width],
+        Place::InLog(p) => &log[p..p + width],
+    }
+}
