@@ -1,0 +1,78 @@
+use types.Run.{miss}
+use mathlib.Core.List.{[], _∷_}
+use Prim.Native.Nat.{ℕ, _-_, _≤_, _<_}
+use mathlib.Core.Path.{_≡_, sym, ap, _∙_}
+use native.Mathlib.Omega.{arith}
+use denote.Ref.{now}
+use borrow.Author.Count.{below-more}
+use Rattle.reader.specs.ReadLaws.{bodies-refused, bodies-pass}
+use mathlib.Core.Option.{none}
+use Rattle.model.specs.Laws.Contents.{contents-ok}
+use Rattle.model.specs.Book.Contents.{count}
+use Rattle.model.specs.Book.Read.{bodyRefusal}
+use Rattle.reader.specs.Reading.{refusalOf}
+use borrow.Author.Needs.{needs}
+use Rattle.reader.proofs.all_bodies.Statement.{statement}
+use Rattle.reader.proofs.all_bodies.Tie as tie
+
+abbrev Inv-loop : tie.InvT-loop
+Inv-loop words sizes n i₀ i = (i ≤ n) × ((j : ℕ) → j < i → none ≡ bodyRefusal words j)
+
+abbrev μ-loop : tie.MeasureT-loop
+μ-loop words sizes n i₀ i = n - i
+
+sizes-of-requires : tie.Need-sizes-of-requires Inv-loop μ-loop
+sizes-of-requires c κs = contents-ok (now (c .before .args .words)) (c .before .pre) .counted .most
+
+size-at-requires : tie.Need-size-at-requires Inv-loop μ-loop
+size-at-requires c κs = search needs
+
+loop-holds : tie.Need-loop-holds Inv-loop μ-loop
+loop-holds c = (search needs, λ j h. absurd (omega arith))
+
+body-requires : tie.Need-body-requires Inv-loop μ-loop
+body-requires c κs =
+    let z = c .before .before .before .sizes-of .ensures in
+    record { contents = c .before .before .before .before .before .pre; below = omega arith; isSizes = rw (z .tables, z .counters, z .rules) }
+
+enum-told : tie.Need-enum-told Inv-loop μ-loop
+enum-told c = search needs
+
+returns : tie.Need-returns Inv-loop μ-loop
+returns c =
+    let l = c .before .before .before .loop in
+    bodies-refused (now (c .before .before .before .before .before .before .before .args .words)) (c .before .body .result) (l .i) (λ e. miss (1 ∷ 2 ∷ 3 ∷ 4 ∷ 5 ∷ []) 0 tt (rw e at (c .match .keys2))) (omega arith) (l .inv .1) (c .before .body .ensures)
+
+add-i : tie.Need-add-i Inv-loop μ-loop
+add-i c = search needs
+
+loop-less : tie.Need-loop-less Inv-loop μ-loop
+loop-less c = search needs
+
+loop-again : tie.Need-loop-again Inv-loop μ-loop
+loop-again c =
+    let l = c .before .before .before .before .loop in
+    (search needs, below-more _ _ (l .inv .1) (sym (ap refusalOf (c .enum-told .given .1)) ∙ c .before .before .body .ensures))
+
+returns-2 : tie.Need-returns-2 Inv-loop μ-loop
+returns-2 c =
+    let l = c .before .loop in
+    let e : l .i ≡ count (now (c .before .before .before .before .before .args .words)) = omega arith in
+    bodies-pass (now (c .before .before .before .before .before .args .words)) (rw e at (l .inv .1))
+
+pub all-bodies-spec : {M : Type 1} → statement M
+all-bodies-spec =
+    tie.close
+    (tie.spec
+    Inv-loop
+    μ-loop
+    sizes-of-requires
+    size-at-requires
+    loop-holds
+    body-requires
+    enum-told
+    returns
+    add-i
+    loop-less
+    loop-again
+    returns-2)

@@ -1,0 +1,32 @@
+use borrow.Author.Tests.{eq-eqb, ne-eqb}
+use Prim.Native.Nat.{_+_}
+use native.Mathlib.Omega.{arith}
+use Rattle.model.specs.Book.Scan.{left}
+use borrow.Author.Needs.{needs}
+use Rattle.reader.proofs.bodies.left.Statement.{statement}
+use Rattle.reader.proofs.bodies.left.Tie as tie
+
+enum-told : tie.Need-enum-told
+enum-told c = search needs
+
+enum-known-s : tie.Need-enum-known-s
+enum-known-s c = search needs
+
+returns : tie.Need-returns
+unfolding left
+returns c = rw (c .before .before .s .given .1, ne-eqb (c .before .before .s .given .0 .0 + c .before .before .before .before .args .n) (c .before .before .before .before .args .end) (omega arith))
+
+returns-2 : tie.Need-returns-2
+unfolding left
+returns-2 c = rw (c .enum-told .given .1)
+
+returns-3 : tie.Need-returns-3
+unfolding left
+returns-3 c = rw (c .before .before .before .s .given .1, eq-eqb (c .before .before .before .s .given .0 .0 + c .before .before .before .before .before .args .n) (c .before .before .before .before .before .args .end) (omega arith))
+
+returns-4 : tie.Need-returns-4
+unfolding left
+returns-4 c = rw (c .before .before .before .s .given .1, ne-eqb (c .before .before .before .s .given .0 .0 + c .before .before .before .before .before .args .n) (c .before .before .before .before .before .args .end) (omega arith))
+
+pub left-spec : {M : Type 1} → statement M
+left-spec = tie.close (tie.spec enum-told enum-known-s returns returns-2 returns-3 returns-4)

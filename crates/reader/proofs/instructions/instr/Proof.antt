@@ -1,0 +1,71 @@
+use lib.ListN.{length}
+use Prim.Native.Nat.{_≤_, _-_}
+use mathlib.Core.Path.{_≡_, refl, _∙_}
+use native.Mathlib.Omega.{arith}
+use Rattle.model.specs.Basics.{iter}
+use Rattle.model.specs.Laws.Iter.{iter-more}
+use Rattle.reader.specs.Values.{scanOf, sizesOf}
+use Rattle.reader.specs.ScanLaws.{fieldTurn, instr-is}
+use borrow.Author.Needs.{needs}
+use Rattle.reader.proofs.instructions.instr.Statement.{statement}
+use Rattle.reader.proofs.instructions.instr.Tie as tie
+
+abbrev Inv-loop : tie.InvT-loop
+Inv-loop end words sizes fs t₀ k₀ t k = (k ≤ 6) × (scanOf t ≡ iter (fieldTurn end words (sizesOf sizes) fs) k (scanOf t₀))
+
+abbrev μ-loop : tie.MeasureT-loop
+μ-loop end words sizes fs t₀ k₀ t k = 6 - k
+
+peek-requires : tie.Need-peek-requires Inv-loop μ-loop
+peek-requires c κs = search needs
+
+fields-requires : tie.Need-fields-requires Inv-loop μ-loop
+fields-requires c κs = search needs
+
+word-requires : tie.Need-word-requires Inv-loop μ-loop
+word-requires c κs = search needs
+
+loop-holds : tie.Need-loop-holds Inv-loop μ-loop
+loop-holds c = (search needs, refl)
+
+array-copy-out-f : tie.Need-array-copy-out-f Inv-loop μ-loop
+array-copy-out-f c = search needs
+
+walk-field-requires : tie.Need-walk-field-requires Inv-loop μ-loop
+walk-field-requires c κs = search needs
+
+add-k : tie.Need-add-k Inv-loop μ-loop
+add-k c = search needs
+
+loop-less : tie.Need-loop-less Inv-loop μ-loop
+loop-less c = search needs
+
+loop-again : tie.Need-loop-again Inv-loop μ-loop
+loop-again c =
+    let l = c .before .before .before .loop in
+    (search needs, iter-more _ (l .k) _ _ _ (l .inv .1) (c .walk-field .ensures))
+
+returns : tie.Need-returns Inv-loop μ-loop
+returns c =
+    let l = c .before .loop in
+    let e : l .k ≡ 6 = omega arith in
+    let fs = c .before .before .before .fields in
+    let n : length (fs .result) ≡ 6 = search needs in
+    l .inv .1 ∙ rw (e, c .before .before .word .ensures, instr-is _ _ _ _ (fs .result) n (rw (c .before .before .before .before .peek .ensures) at (fs .ensures)))
+
+pub instr-spec : {M : Type 1} → statement M
+instr-spec =
+    tie.close
+    (tie.spec
+    Inv-loop
+    μ-loop
+    peek-requires
+    fields-requires
+    word-requires
+    loop-holds
+    array-copy-out-f
+    walk-field-requires
+    add-k
+    loop-less
+    loop-again
+    returns)

@@ -1,0 +1,134 @@
+use Rattle.model.specs.Book.Scan.{field}
+use borrow.Author.Needs.{needs}
+use Rattle.reader.proofs.instructions.walk_field.Statement.{statement}
+use Rattle.reader.proofs.instructions.walk_field.Tie as tie
+
+enum-told : tie.Need-enum-told
+enum-told c = search needs
+
+enum-told-2 : tie.Need-enum-told-2
+enum-told-2 c = search needs
+
+word-requires : tie.Need-word-requires
+word-requires c κs = search needs
+
+enum-told-3 : tie.Need-enum-told-3
+enum-told-3 c = search needs
+
+word-requires-2 : tie.Need-word-requires-2
+word-requires-2 c κs = search needs
+
+enum-told-4 : tie.Need-enum-told-4
+enum-told-4 c = search needs
+
+word-requires-3 : tie.Need-word-requires-3
+word-requires-3 c κs = search needs
+
+enum-told-5 : tie.Need-enum-told-5
+enum-told-5 c = search needs
+
+word-requires-4 : tie.Need-word-requires-4
+word-requires-4 c κs = search needs
+
+enum-told-6 : tie.Need-enum-told-6
+enum-told-6 c = search needs
+
+word-requires-5 : tie.Need-word-requires-5
+word-requires-5 c κs = search needs
+
+enum-told-7 : tie.Need-enum-told-7
+enum-told-7 c = search needs
+
+word-requires-6 : tie.Need-word-requires-6
+word-requires-6 c κs = search needs
+
+enum-told-8 : tie.Need-enum-told-8
+enum-told-8 c = search needs
+
+pair-requires : tie.Need-pair-requires
+pair-requires c κs = search needs
+
+enum-told-9 : tie.Need-enum-told-9
+enum-told-9 c = search needs
+
+pairs-requires : tie.Need-pairs-requires
+pairs-requires c κs = search needs
+
+enum-told-10 : tie.Need-enum-told-10
+enum-told-10 c = search needs
+
+pairs-requires-2 : tie.Need-pairs-requires-2
+pairs-requires-2 c κs = search needs
+
+returns : tie.Need-returns
+returns c = rw (c .enum-told .given .1)
+
+returns-2 : tie.Need-returns-2
+unfolding field
+returns-2 c = rw (c .before .enum-told2 .given .1, c .word .ensures)
+
+returns-3 : tie.Need-returns-3
+unfolding field
+returns-3 c = rw (c .before .enum-told3 .given .1, c .word2 .ensures)
+
+returns-4 : tie.Need-returns-4
+unfolding field
+returns-4 c = rw (c .before .enum-told4 .given .1, c .word3 .ensures)
+
+returns-5 : tie.Need-returns-5
+unfolding field
+returns-5 c = rw (c .before .enum-told5 .given .1, c .word4 .ensures)
+
+returns-6 : tie.Need-returns-6
+unfolding field
+returns-6 c = rw (c .before .enum-told6 .given .1, c .word5 .ensures)
+
+returns-7 : tie.Need-returns-7
+unfolding field
+returns-7 c = rw (c .before .enum-told7 .given .1, c .word6 .ensures)
+
+returns-8 : tie.Need-returns-8
+unfolding field
+returns-8 c = rw (c .before .enum-told8 .given .1, c .pair .ensures)
+
+returns-9 : tie.Need-returns-9
+unfolding field
+returns-9 c = rw (c .before .enum-told9 .given .1, c .pairs .ensures)
+
+returns-10 : tie.Need-returns-10
+unfolding field
+returns-10 c = rw (c .before .enum-told10 .given .1, c .pairs2 .ensures)
+
+pub walk-field-spec : {M : Type 1} → statement M
+walk-field-spec =
+    tie.close
+    (tie.spec
+    enum-told
+    enum-told-2
+    word-requires
+    enum-told-3
+    word-requires-2
+    enum-told-4
+    word-requires-3
+    enum-told-5
+    word-requires-4
+    enum-told-6
+    word-requires-5
+    enum-told-7
+    word-requires-6
+    enum-told-8
+    pair-requires
+    enum-told-9
+    pairs-requires
+    enum-told-10
+    pairs-requires-2
+    returns
+    returns-2
+    returns-3
+    returns-4
+    returns-5
+    returns-6
+    returns-7
+    returns-8
+    returns-9
+    returns-10)

@@ -1,0 +1,29 @@
+use borrow.Author.Tests.{lt-ltb, le-ltb}
+use Rattle.model.specs.Book.Scan.{step}
+use borrow.Author.Needs.{needs}
+use Rattle.reader.proofs.scan.step.Statement.{statement}
+use Rattle.reader.proofs.scan.step.Tie as tie
+
+enum-told : tie.Need-enum-told
+enum-told c = search needs
+
+enum-known-s : tie.Need-enum-known-s
+enum-known-s c = search needs
+
+mark-requires : tie.Need-mark-requires
+mark-requires c κs = search needs
+
+returns : tie.Need-returns
+unfolding step
+returns c = rw (c .enum-told .given .1)
+
+returns-2 : tie.Need-returns-2
+unfolding step
+returns-2 c = rw (c .before .before .before .s .given .1, lt-ltb _ _ (c .before .if1 .taken), c .mark .ensures)
+
+returns-3 : tie.Need-returns-3
+unfolding step
+returns-3 c = rw (c .before .before .s .given .1, le-ltb _ _ (c .if1 .left))
+
+pub step-spec : {M : Type 1} → statement M
+step-spec = tie.close (tie.spec enum-told enum-known-s mark-requires returns returns-2 returns-3)

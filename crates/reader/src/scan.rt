@@ -1,0 +1,126 @@
+// One walk over a body, word by word: refusals 3, 6 and 4.
+ghost use mathlib.Core.Path.{_≡_};
+ghost use Prim.Native.Nat.{_+_, _^_, _<_};
+ghost use lib.ListN.{getD};
+ghost use Rattle.model.specs.Book.Scan as spec;
+ghost use Rattle.reader.specs.Values.{drawOf, testOf, scanOf};
+
+const STALE: u32 = 4294967295;
+
+// What a word draws: nothing, 3, 6 or 4.
+enum Draw {
+    Fine,
+    Layout,
+    Absent,
+    Stale,
+}
+
+// What a word has to be: anything; not the stale mark, else it draws 4; below a number, else 6; at most a number, or from one to another, else 3.
+pub enum Test {
+    Any,
+    Clean,
+    Below(u32),
+    UpTo(u32),
+    Range(u32, u32),
+}
+
+// A walk that drew 3; or the word that it stands at, with the first words that drew 6 and 4. There 0 is none, since no body has word 0 of the book.
+pub enum Scan {
+    Bad,
+    Good {
+        at: usize,
+        absent: usize,
+        stale: usize,
+    },
+}
+
+// What a word draws by a test.
+fn drawn(test: Test, x: u32) -> Draw
+    ensures { λ r. ⌜ drawOf r ≡ testOf test x ⌝ }
+{
+    match test {
+        Test::Any => Draw::Fine,
+        Test::Clean => { if x == STALE { Draw::Stale } else { Draw::Fine } }
+        Test::Below(n) => { if x < n { Draw::Fine } else { Draw::Absent } }
+        Test::UpTo(n) => { if x <= n { Draw::Fine } else { Draw::Layout } }
+        Test::Range(from, to) => {
+            if x < from {
+                return Draw::Layout;
+            }
+            if x <= to { Draw::Fine } else { Draw::Layout }
+        }
+    }
+}
+
+// The first of the word that drew before, if one did, and the word `at`.
+fn earliest(drawn: usize, at: usize) -> usize
+    ensures { λ r. ⌜ r ≡ spec.earliest drawn at ⌝ }
+{
+    if drawn == 0 { at } else { drawn }
+}
+
+// Past the word `at`, which draws d.
+fn mark(d: Draw, at: usize, absent: usize, stale: usize) -> Scan
+    requires { ⌜ at + 1 < 2 ^ 64 ⌝ }
+    ensures { λ r. ⌜ scanOf r ≡ spec.mark (drawOf d) at absent stale ⌝ }
+{
+    match d {
+        Draw::Fine => Scan::Good {
+            at: at + 1,
+            absent,
+            stale,
+        },
+        Draw::Layout => Scan::Bad,
+        Draw::Absent => Scan::Good {
+            at: at + 1,
+            absent: earliest(absent, at),
+            stale,
+        },
+        Draw::Stale => Scan::Good {
+            at: at + 1,
+            absent,
+            stale: earliest(stale, at),
+        },
+    }
+}
+
+// Past a word that draws d, if the body has one more.
+fn step(end: usize, d: Draw, s: Scan) -> Scan
+    ensures { λ r. ⌜ scanOf r ≡ spec.step end (drawOf d) (scanOf s) ⌝ }
+{
+    match s {
+        Scan::Bad => Scan::Bad,
+        Scan::Good { at, absent, stale } => {
+            if at < end {
+                mark(d, at, absent, stale)
+            } else {
+                Scan::Bad
+            }
+        }
+    }
+}
+
+// The word at p, as a size.
+pub fn size_at(words: &[u32], p: usize) -> usize
+    ensures { λ r. ⌜ (r ≡ getD (now (words .entry)) p 0) × (r < 4294967296) ⌝ }
+{
+    words::size(words::word(words, p))
+}
+
+// The word that a walk stands at.
+pub fn peek(words: &[u32], s: Scan) -> u32
+    ensures { λ r. ⌜ r ≡ spec.peek (now (words .entry)) (scanOf s) ⌝ }
+{
+    match s {
+        Scan::Bad => 0,
+        Scan::Good { at, .. } => words::word(words, at),
+    }
+}
+
+// Past a word that is put to a test.
+pub fn word(end: usize, words: &[u32], test: Test, s: Scan) -> Scan
+    ensures { λ r. ⌜ scanOf r ≡ spec.word end (now (words .entry)) (testOf test) (scanOf s) ⌝ }
+{
+    let x = peek(words, s);
+    step(end, drawn(test, x), s)
+}
