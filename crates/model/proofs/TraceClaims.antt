@@ -17,8 +17,8 @@ use Rattle.model.specs.Check.{entriesOf, readsOf}
 use Rattle.model.specs.Claims.Trace.{In, readFirst, readThen, ReadsAll, LookupAt, lookupOf, Comes, pre, post, EntriesNoted, RowsNoted, AnswersNoted}
 use Rattle.model.specs.Laws.Logic.{none-some, some-inj, either, found-ind, when-ind}
 use Rattle.model.specs.Safety.Run.{bind-same, out-column}
+use Rattle.model.specs.Laws.Turns.{need-ind}
 use Rattle.model.proofs.Grown.{in-there, in-cons, in-append, in-left, in-right, in-none, newer-in, going-T, T-going}
-use Rattle.model.proofs.TraceTurns.{need-ind}
 use Rattle.model.proofs.TracePasses.{when-yes}
 use Rattle.model.proofs.Went.{row-went}
 use Rattle.model.proofs.TraceBodies.{Took}

@@ -15,10 +15,11 @@ use Rattle.model.specs.Machine.Values.{hold, valuesOf, listOf, find, pre
 use Rattle.model.specs.Machine.Steps.{here, tableOf, wait, clear, isLive, lanes, missed, stageNew, rowStart, predictRow, takeColumn, serveMissed, body, predict, step, run}
 use Rattle.model.specs.Claims.Trace.{In, Misses, pre, Asker, lane, predicts, AsksComplete}
 use Rattle.model.specs.Laws.Logic.{and-T, T-cases, found-ind, either, some-inj, none-some}
-use Rattle.model.specs.Safety.Lanes.{room-ind, live-below}
+use Rattle.model.specs.Safety.Lanes.{live-below}
+use Rattle.model.specs.Laws.Turns.{need-ind, room-ind}
 use Rattle.model.proofs.Grown.{newer-in, newer-cases, going-T}
 use Rattle.model.proofs.Entries.{hold-values, list-values}
-use Rattle.model.proofs.TraceTurns.{need-ind, Moves, moves-refl, moves-note, moves-counters, moves-in, moves-stop, Turn, turn-refl, turn-closed, Quiet, column-closed}
+use Rattle.model.proofs.TraceTurns.{Moves, moves-refl, moves-note, moves-counters, moves-in, moves-stop, Turn, turn-refl, turn-closed, Quiet, column-closed}
 use Rattle.model.proofs.TracePasses.{when-yes, Later, turns, Had, pass, pass-before, pass-after, pass-asks, isMissed, missed-then, lanes-later, lanes-quiet}
 use Rattle.model.proofs.TraceBodies.{none-at, Waits, waits, firstTurn, first-turn, Served, serve-turn, looked}
 use Rattle.model.proofs.TraceRun.{EventAt, Among, GrowsAmong, run-grows}

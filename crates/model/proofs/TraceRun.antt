@@ -15,8 +15,9 @@ use Rattle.model.specs.Machine.State.{State, Site, Event, mask, reads, t
 use Rattle.model.specs.Machine.Values.{find}
 use Rattle.model.specs.Machine.Steps.{here, tableOf, clear, bindOut, anyLive, begin, end, finish, body, instruction, instructions, predict, step, run}
 use Rattle.model.specs.Laws.Logic.{and-T, found-ind, when-ind, either, le-cases}
+use Rattle.model.specs.Laws.Turns.{need-ind}
 use Rattle.model.proofs.Grown.{Grows, grows-refl, grows-trans, grows-note, grows-logged, grows-stop, grows-map}
-use Rattle.model.proofs.TraceTurns.{need-ind, Closed, Own, row-closed}
+use Rattle.model.proofs.TraceTurns.{Closed, Own, row-closed}
 use Rattle.model.proofs.TraceBodies.{AsksOf, LaneEvent, LaneRecord, body-adds}
 
 -- an event at a site with P, or a mask of a step with M

@@ -9,19 +9,15 @@ use lib.ListN.{length, getD, getElem?, take, drop, length-set}
 use lib.Seq.{getD-set-other}
 use Rattle.model.specs.Basics.{only, first}
 use Rattle.model.specs.Book.Syntax.{Counter, QueryEntry, WriteVal}
-use Rattle.model.specs.Machine.State.{State, Site, Record, Event, mask, reads, took, asks, Status, stuck, spent, full, isGoing, Bindings, Env, stop, note, give, lose, withCounters, change, logged, need, logWords}
+use Rattle.model.specs.Machine.State.{State, Site, Record, Event, mask, reads, took, asks, Status, stuck, spent, full, isGoing, Bindings, Env, stop, note, give, lose, withCounters, change, logged, logWords}
 use Rattle.model.specs.Machine.Values.{hold, valueOf, valuesOf, listOf, find, predictedRows, Built, isStuck, isSpent, built, build}
 use Rattle.model.specs.Machine.Steps.{tableOf, stageNew, rowStart, predictRow, takeColumn, lookup, invoke, takeDefault, serveMissed, stageList, readPair, anyNe, assertAnyNe}
 use Rattle.model.specs.Claims.Demand3.{Within}
 use Rattle.model.specs.Claims.Trace.{In}
 use Rattle.model.specs.Laws.Logic.{found-ind, when-ind}
 use Rattle.model.specs.Safety.Inv.{set-within}
-use Rattle.model.specs.Safety.Lanes.{room-ind}
+use Rattle.model.specs.Laws.Turns.{need-ind, room-ind}
 use Rattle.model.proofs.Grown.{in-there, newer-in, Grows, grows-refl, grows-trans, grows-note, grows-logged, grows-stop, grows-map}
-
-pub need-ind : {A : Type 0} (P : State → Type 0) (o : Option A) (s : State) (k : A → State) → P (stop stuck s) → ((a : A) → o ≡ some a → P (k a)) → P (need o s k)
-need-ind P none s k p h = p
-need-ind P (some a) s k p h = h a refl
 
 -- ## From a state to a later one of the same batch
 

@@ -13,8 +13,7 @@ use Rattle.model.specs.Machine.State.{State, Site, Record, reads, took, 
 use Rattle.model.specs.Machine.Values.{hold, valueOf, valuesOf, listOf, find, predictedRows, Built, isStuck, isSpent, built, build}
 use Rattle.model.specs.Machine.Steps.{tableOf, stageNew, rowStart, predictRow, takeColumn, lookup, invoke, takeDefault, serveMissed, stageList, readPair, anyNe, assertAnyNe}
 use Rattle.model.specs.Laws.Logic.{found-ind, only-some, only-yes}
-use Rattle.model.specs.Safety.Lanes.{room-ind}
-use Rattle.model.proofs.TraceTurns.{need-ind}
+use Rattle.model.specs.Laws.Turns.{need-ind, room-ind}
 
 -- where the run goes on, Q holds
 abbrev If : (State → Type 0) → State → Type 0

@@ -1,14 +1,14 @@
 -- What a lane's turn comes to, case by case, as equations: for the loops of the code.
 use Prim.Native.Nat.{ℕ, _+_}
-use mathlib.Core.Path.{_≡_}
+use mathlib.Core.Path.{_≡_, refl}
 use mathlib.Core.Bool.{Bool, true, false, not}
-use mathlib.Core.Option.{none, some}
+use mathlib.Core.Option.{Option, none, some}
 use mathlib.Core.List.{List, [], _∷_, _++_}
 use lib.Dec.{eqb, leb}
 use lib.ListN.{length, getElem?, take, drop}
 use Rattle.model.specs.Basics.{when}
 use Rattle.model.specs.Book.Syntax.{Counter, QueryEntry, WriteVal, width}
-use Rattle.model.specs.Machine.State.{State, Site, Record, reads, took, spent, full, Bindings, Env, stop, note, give, lose, withCounters, change, logged, logWords}
+use Rattle.model.specs.Machine.State.{State, Site, Record, reads, took, stuck, spent, full, Bindings, Env, stop, need, ifRoom, note, give, lose, withCounters, change, logged, logWords}
 use Rattle.model.specs.Machine.Values.{valueOf, valuesOf, listOf, find, predictedRows, isSpent, built, build}
 use Rattle.model.specs.Machine.Steps.{tableOf, predictRow, takeColumn, lookup, invoke, takeDefault, stageList, readPair, anyNe, assertAnyNe}
 
@@ -17,6 +17,15 @@ when-T b f s e = rw e
 
 pub when-F : {A : Type 0} (b : Bool) (f : A → A) (s : A) → b ≡ false → when b f s ≡ s
 when-F b f s e = rw e
+
+-- what each case of a branch has
+pub need-ind : {A : Type 0} (P : State → Type 0) (o : Option A) (s : State) (k : A → State) → P (stop stuck s) → ((a : A) → o ≡ some a → P (k a)) → P (need o s k)
+need-ind P none s k p h = p
+need-ind P (some a) s k p h = h a refl
+
+pub room-ind : (P : State → Type 0) (b : Bool) (r : Record) (s : State) (k : State → State) → P (k (logged r s)) → P (stop full s) → P (ifRoom b r s k)
+room-ind P true r s k p q = p
+room-ind P false r s k p q = q
 
 module _ (o : Site) (s : State) where
   pub default-is : (e : QueryEntry) (w : ℕ) → valueOf (s .bindings) (o .lane) e ≡ some w → takeDefault o e s ≡ give (o .lane) w (note (reads o (w ∷ [])) s)

@@ -11,7 +11,7 @@ use lib.ListN.{length, getD, getElem?, set, take, drop, length-set}
 use lib.Seq.{getD-set-same, take-at}
 use Rattle.model.specs.Basics.{first, keepIf, All}
 use Rattle.model.specs.Book.Syntax.{Clean, QueryEntry, WriteVal, width, tableAt}
-use Rattle.model.specs.Machine.State.{State, Record, recordSize, reads, took, asks, stuck, spent, full, isGoing, Bindings, Env, stop, note, give, lose, withCounters, change, logged, need, ifRoom, logWords}
+use Rattle.model.specs.Machine.State.{State, Record, recordSize, reads, took, asks, stuck, spent, full, isGoing, Bindings, Env, stop, note, give, lose, withCounters, change, logged, need, logWords}
 use Rattle.model.specs.Machine.Values.{hold, find, isRow, predictedRows, Built, isStuck, isSpent, built, build}
 use Rattle.model.specs.Machine.Steps.{here, tableOf, stageNew, predictRow, takeColumn, lookup, invoke, takeDefault, serveMissed, stageList, readPair, anyNe, assertAnyNe}
 use Rattle.model.specs.Check.{IsKnown, Below, entriesOf, currentsOf}
@@ -21,6 +21,7 @@ use Rattle.model.specs.Laws.Logic.{and-T, some-inj, none-some, found-ind
 use Rattle.model.specs.Safety.Rows.{rowsOf, steady-other, new-row, steady-row}
 use Rattle.model.specs.Safety.Fetch.{Readable, entry-read, entries-read, list-read, But, hold-read, find-All, cell, BuiltOk, build-ok}
 use Rattle.model.specs.Safety.Inv.{Inv, stop-inv, reads-inv, took-inv, asks-inv, counters-inv, give-inv, lose-inv, logged-inv, weaken, set-within, RowSized}
+use Rattle.model.specs.Laws.Turns.{room-ind}
 
 -- ## Small facts
 
@@ -52,10 +53,6 @@ first-single (x ∷ y ∷ xs) r h e = absurd (omega arith)
 
 pub need-some : {A : Type 0} (P : State → Type 0) (o : Option A) (s : State) (k : A → State) (a : A) → o ≡ some a → P (k a) → P (need o s k)
 need-some P o s k a e p = rw e p
-
-pub room-ind : (P : State → Type 0) (b : Bool) (r : Record) (s : State) (k : State → State) → P (k (logged r s)) → P (stop full s) → P (ifRoom b r s k)
-room-ind P true r s k p q = p
-room-ind P false r s k p q = q
 
 spent≢stuck : spent ≢ stuck
 spent≢stuck e = let z : _≡_ {A = ℕ} 0 1 = cc in omega arith
