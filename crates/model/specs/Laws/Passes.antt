@@ -111,8 +111,16 @@ eq-or-not i j = elim (decLt i j) [ yes p ↦ inr (λ e. omega arith) | no p ↦ 
 
 -- ## A pass
 
+-- what a pass leaves of each lane, by its mark and what was found for it before
+pub record Whole (todo : Bool → Option ℕ → Bool) (e : ℕ → Effect) (s₀ s : State) : Type 0 where
+  pub passed : Passed s₀ s (s .live) (s .out)
+  pub live-size : length (s .live) ≡ length (s₀ .live)
+  pub out-size : length (s .out) ≡ length (s₀ .out)
+  pub live : (j : ℕ) → getD (s .live) j false ≡ liveAfter (todo (getD (s₀ .live) j false) (getD (s₀ .out) j none)) (e j) (getD (s₀ .live) j false)
+  pub out : (j : ℕ) → getD (s .out) j none ≡ outAfter (todo (getD (s₀ .live) j false) (getD (s₀ .out) j none)) (e j) (getD (s₀ .out) j none)
+
 module _ (has : State → ℕ → Bool) (todo : Bool → Option ℕ → Bool) (q : Turns has todo) (f : ℕ → State → State) (e : ℕ → Effect) (s₀ : State) (run : s₀ .status ≡ going) (sizes : length (s₀ .out) ≡ length (s₀ .live))
-    (does : (i : ℕ) (s : State) → s .bindings ≡ s₀ .bindings → s .status ≡ going → Does (e i) i s (f i s)) where
+    (does : (i : ℕ) (s : State) → i < length (s₀ .live) → s .bindings ≡ s₀ .bindings → s .status ≡ going → Does (e i) i s (f i s)) where
   abbrev due : ℕ → Bool
   due j = todo (getD (s₀ .live) j false) (getD (s₀ .out) j none)
 
@@ -184,18 +192,10 @@ module _ (has : State → ℕ → Bool) (todo : Bool → Option ℕ → Bool) (q
           here = q .on (pass i) i going-on ∙ rw (m .live i, m .out i, turned-here i)
 
           turn : due i ≡ true → (pass (suc i) .status ≡ stuck) ⊎ Mid (suc i) (pass (suc i))
-          turn z = rw (here ∙ z) (either inl (λ p. inr (took i (pass i) (f i (pass i)) (omega arith) z m p)) (does i (pass i) (m .passed .bindings) going-on))
-
-  -- what is left of the lanes
-  pub record Whole (s : State) : Type 0 where
-    pub passed : Passed s₀ s (s .live) (s .out)
-    pub live-size : length (s .live) ≡ length (s₀ .live)
-    pub out-size : length (s .out) ≡ length (s₀ .out)
-    pub live : (j : ℕ) → getD (s .live) j false ≡ liveAfter (due j) (e j) (getD (s₀ .live) j false)
-    pub out : (j : ℕ) → getD (s .out) j none ≡ outAfter (due j) (e j) (getD (s₀ .out) j none)
+          turn z = rw (here ∙ z) (either inl (λ p. inr (took i (pass i) (f i (pass i)) (omega arith) z m p)) (does i (pass i) (omega arith) (m .passed .bindings) going-on))
 
   all-turned : (j : ℕ) → turned (length (s₀ .live)) j ≡ due j
   all-turned j = elim (decLt j (length (s₀ .live))) [ yes p ↦ rw (lt-ltb j (length (s₀ .live)) p) | no p ↦ rw (le-ltb j (length (s₀ .live)) (omega arith)) (sym (rw (List·getD-eq-default (s₀ .live) false {n = j} (omega arith)) (q .live (getD (s₀ .out) j none)))) ]
 
-  pub whole : (pass (length (s₀ .live)) .status ≡ stuck) ⊎ Whole (pass (length (s₀ .live)))
+  pub whole : (pass (length (s₀ .live)) .status ≡ stuck) ⊎ Whole todo e s₀ (pass (length (s₀ .live)))
   whole = either inl (λ m. inr (record { passed = m .passed; live-size = m .live-size; out-size = m .out-size; live = λ j. m .live j ∙ rw (all-turned j); out = λ j. m .out j ∙ rw (all-turned j) })) (mid (length (s₀ .live)) (omega arith))

@@ -1,0 +1,225 @@
+use mathlib.Core.Path.{sym, _∙_}
+use denote.Ref.{now}
+use Rattle.instr.specs.Instr.{nextBy}
+use Rattle.instr.specs.InstrLaws.{next-op, next-at, next-rest}
+use borrow.Author.Needs.{needs}
+use Rattle.instr.proofs.next.Statement.{statement}
+use Rattle.instr.proofs.next.Tie as tie
+
+word-requires : tie.Need-word-requires
+word-requires c κs = search needs
+
+add-past-list : tie.Need-add-past-list
+add-past-list c = search needs
+
+past-list-requires : tie.Need-past-list-requires
+past-list-requires c κs = search needs
+
+past-list-requires-2 : tie.Need-past-list-requires-2
+past-list-requires-2 c κs = search needs
+
+add-result : tie.Need-add-result
+add-result c = search needs
+
+add-past-list-2 : tie.Need-add-past-list-2
+add-past-list-2 c = search needs
+
+past-list-requires-3 : tie.Need-past-list-requires-3
+past-list-requires-3 c κs = search needs
+
+add-result-2 : tie.Need-add-result-2
+add-result-2 c = search needs
+
+add-past-list-3 : tie.Need-add-past-list-3
+add-past-list-3 c = search needs
+
+past-list-requires-4 : tie.Need-past-list-requires-4
+past-list-requires-4 c κs = search needs
+
+add-result-3 : tie.Need-add-result-3
+add-result-3 c = search needs
+
+add-past-list-4 : tie.Need-add-past-list-4
+add-past-list-4 c = search needs
+
+past-list-requires-5 : tie.Need-past-list-requires-5
+past-list-requires-5 c κs = search needs
+
+add-past-list-5 : tie.Need-add-past-list-5
+add-past-list-5 c = search needs
+
+past-list-requires-6 : tie.Need-past-list-requires-6
+past-list-requires-6 c κs = search needs
+
+add-result-4 : tie.Need-add-result-4
+add-result-4 c = search needs
+
+add-past-list-6 : tie.Need-add-past-list-6
+add-past-list-6 c = search needs
+
+past-list-requires-7 : tie.Need-past-list-requires-7
+past-list-requires-7 c κs = search needs
+
+add-past-list-7 : tie.Need-add-past-list-7
+add-past-list-7 c = search needs
+
+past-list-requires-8 : tie.Need-past-list-requires-8
+past-list-requires-8 c κs = search needs
+
+add-past-list-8 : tie.Need-add-past-list-8
+add-past-list-8 c = search needs
+
+past-list-requires-9 : tie.Need-past-list-requires-9
+past-list-requires-9 c κs = search needs
+
+add-past-list-9 : tie.Need-add-past-list-9
+add-past-list-9 c = search needs
+
+past-list-requires-10 : tie.Need-past-list-requires-10
+past-list-requires-10 c κs = search needs
+
+add-result-5 : tie.Need-add-result-5
+add-result-5 c = search needs
+
+add-past-list-10 : tie.Need-add-past-list-10
+add-past-list-10 c = search needs
+
+past-list-requires-11 : tie.Need-past-list-requires-11
+past-list-requires-11 c κs = search needs
+
+add-past-list-11 : tie.Need-add-past-list-11
+add-past-list-11 c = search needs
+
+past-list-requires-12 : tie.Need-past-list-requires-12
+past-list-requires-12 c κs = search needs
+
+add-result-6 : tie.Need-add-result-6
+add-result-6 c = search needs
+
+add-result-7 : tie.Need-add-result-7
+add-result-7 c = search needs
+
+add-result-8 : tie.Need-add-result-8
+add-result-8 c = search needs
+
+add-past-list-12 : tie.Need-add-past-list-12
+add-past-list-12 c = search needs
+
+past-list-requires-13 : tie.Need-past-list-requires-13
+past-list-requires-13 c κs = search needs
+
+add-result-9 : tie.Need-add-result-9
+add-result-9 c = search needs
+
+add-result-10 : tie.Need-add-result-10
+add-result-10 c = search needs
+
+returns : tie.Need-returns
+unfolding nextBy
+returns c = rw (c .past-list2 .ensures .0, c .before .past-list .ensures .0) (next-op (now (c .before .before .before .before .before .args .words)) (c .before .before .before .before .before .args .p) 1 (sym (c .before .before .before .word .ensures) ∙ c .before .before .match .keys1))
+
+returns-2 : tie.Need-returns-2
+unfolding nextBy
+returns-2 c = rw (c .past-list3 .ensures .0) (next-op (now (c .before .before .before .before .args .words)) (c .before .before .before .before .args .p) 2 (sym (c .before .before .word .ensures) ∙ c .before .match .keys2))
+
+returns-3 : tie.Need-returns-3
+unfolding nextBy
+returns-3 c = rw (c .past-list4 .ensures .0) (next-op (now (c .before .before .before .before .args .words)) (c .before .before .before .before .args .p) 3 (sym (c .before .before .word .ensures) ∙ c .before .match .keys3))
+
+returns-4 : tie.Need-returns-4
+unfolding nextBy
+returns-4 c = rw (c .past-list6 .ensures .0, c .before .past-list5 .ensures .0) (next-op (now (c .before .before .before .before .before .args .words)) (c .before .before .before .before .before .args .p) 4 (sym (c .before .before .before .word .ensures) ∙ c .before .before .match .keys4))
+
+returns-5 : tie.Need-returns-5
+unfolding nextBy
+returns-5 c = rw (c .past-list7 .ensures .0) (next-op (now (c .before .before .before .before .args .words)) (c .before .before .before .before .args .p) 5 (sym (c .before .before .word .ensures) ∙ c .before .match .keys5))
+
+returns-6 : tie.Need-returns-6
+unfolding nextBy
+returns-6 c = rw (c .past-list8 .ensures .0) (next-op (now (c .before .before .before .before .args .words)) (c .before .before .before .before .args .p) 6 (sym (c .before .before .word .ensures) ∙ c .before .match .keys6))
+
+returns-7 : tie.Need-returns-7
+unfolding nextBy
+returns-7 c = rw (c .past-list9 .ensures .0) (next-op (now (c .before .before .before .before .args .words)) (c .before .before .before .before .args .p) 7 (sym (c .before .before .word .ensures) ∙ c .before .match .keys7))
+
+returns-8 : tie.Need-returns-8
+unfolding nextBy
+returns-8 c = rw (c .past-list10 .ensures .0) (next-op (now (c .before .before .before .before .args .words)) (c .before .before .before .before .args .p) 8 (sym (c .before .before .word .ensures) ∙ c .before .match .keys8))
+
+returns-9 : tie.Need-returns-9
+unfolding nextBy
+returns-9 c = rw (c .past-list12 .ensures .0, c .before .past-list11 .ensures .0) (next-op (now (c .before .before .before .before .before .args .words)) (c .before .before .before .before .before .args .p) 9 (sym (c .before .before .before .word .ensures) ∙ c .before .before .match .keys9))
+
+returns-10 : tie.Need-returns-10
+unfolding nextBy
+returns-10 c = next-op (now (c .before .before .before .args .words)) (c .before .before .before .args .p) 10 (sym (c .before .word .ensures) ∙ c .match .keys10)
+
+returns-11 : tie.Need-returns-11
+unfolding nextBy
+returns-11 c = next-op (now (c .before .before .before .args .words)) (c .before .before .before .args .p) 11 (sym (c .before .word .ensures) ∙ c .match .keys11)
+
+returns-12 : tie.Need-returns-12
+unfolding nextBy
+returns-12 c = rw (c .past-list13 .ensures .0) (next-op (now (c .before .before .before .before .args .words)) (c .before .before .before .before .args .p) 12 (sym (c .before .before .word .ensures) ∙ c .before .match .keys12))
+
+returns-13 : tie.Need-returns-13
+unfolding nextBy
+returns-13 c = next-op (now (c .before .before .before .args .words)) (c .before .before .before .args .p) 13 (sym (c .before .word .ensures) ∙ c .match .keys13)
+
+returns-14 : tie.Need-returns-14
+returns-14 c = let w = now (c .before .before .before .args .words) in rw (← next-at w (c .before .before .before .args .p), ← c .before .word .ensures) (next-rest w _ (c .before .before .before .args .p) (c .match .rest))
+
+pub next-spec : {M : Type 1} → statement M
+next-spec =
+    tie.close
+    (tie.spec
+    word-requires
+    add-past-list
+    past-list-requires
+    past-list-requires-2
+    add-result
+    add-past-list-2
+    past-list-requires-3
+    add-result-2
+    add-past-list-3
+    past-list-requires-4
+    add-result-3
+    add-past-list-4
+    past-list-requires-5
+    add-past-list-5
+    past-list-requires-6
+    add-result-4
+    add-past-list-6
+    past-list-requires-7
+    add-past-list-7
+    past-list-requires-8
+    add-past-list-8
+    past-list-requires-9
+    add-past-list-9
+    past-list-requires-10
+    add-result-5
+    add-past-list-10
+    past-list-requires-11
+    add-past-list-11
+    past-list-requires-12
+    add-result-6
+    add-result-7
+    add-result-8
+    add-past-list-12
+    past-list-requires-13
+    add-result-9
+    add-result-10
+    returns
+    returns-2
+    returns-3
+    returns-4
+    returns-5
+    returns-6
+    returns-7
+    returns-8
+    returns-9
+    returns-10
+    returns-11
+    returns-12
+    returns-13
+    returns-14)

@@ -1,0 +1,3 @@
+pub mod Instr
+pub mod Meaning
+pub mod InstrLaws

@@ -1,0 +1,45 @@
+use mathlib.Core.Path.{sym, _∙_}
+use denote.Ref.{now}
+use Rattle.model.specs.Book.Read.{stepsRefusal}
+use Rattle.model.specs.Outcome.{rulesRefusal}
+use Rattle.rules.specs.RuleLaws.{else-stop, else-on}
+use borrow.Author.Needs.{needs}
+use Rattle.rules.proofs.check_book.Statement.{statement}
+use Rattle.rules.proofs.check_book.Tie as tie
+
+check-rules-requires : tie.Need-check-rules-requires
+check-rules-requires c κs = search needs
+
+is-refusal-requires : tie.Need-is-refusal-requires
+is-refusal-requires c κs = search needs
+
+verdict-requires : tie.Need-verdict-requires
+verdict-requires c κs = search needs
+
+returns : tie.Need-returns
+returns c =
+    let w = now (c .before .before .before .before .before .args .words) in
+    c .verdict .ensures ∙ c .before .before .before .check-rules .ensures ∙ else-stop (rulesRefusal w) (stepsRefusal w) (c .before .before .before .check-rules .result) (c .before .before .before .check-rules .ensures) (sym (c .before .before .is-refusal .ensures) ∙ c .before .if1 .taken)
+
+fit-steps-requires : tie.Need-fit-steps-requires
+fit-steps-requires c κs = search needs
+
+verdict-requires-2 : tie.Need-verdict-requires-2
+verdict-requires-2 c κs = search needs
+
+returns-2 : tie.Need-returns-2
+returns-2 c =
+    let w = now (c .before .before .before .before .before .before .args .words) in
+    c .verdict2 .ensures ∙ c .before .fit-steps .ensures ∙ else-on (rulesRefusal w) (stepsRefusal w) (c .before .before .before .before .check-rules .result) (c .before .before .before .before .check-rules .ensures) (sym (c .before .before .before .is-refusal .ensures) ∙ c .before .before .if1 .left)
+
+pub check-book-spec : {M : Type 1} → statement M
+check-book-spec =
+    tie.close
+    (tie.spec
+    check-rules-requires
+    is-refusal-requires
+    verdict-requires
+    returns
+    fit-steps-requires
+    verdict-requires-2
+    returns-2)

@@ -1,0 +1,162 @@
+use Prim.Native.Nat.{ℕ, _+_, _-_, _≤_}
+use mathlib.Core.Path.{refl, _≡_, sym, ap, _∙_}
+use native.Mathlib.Omega.{arith}
+use lib.ListN.{length, getD}
+use borrow.Author.Count.{below-more}
+use denote.Ref.{now}
+use Rattle.model.specs.Book.Contents.{firstOf}
+use Rattle.model.specs.Check.{bound?}
+use Rattle.model.specs.Outcome.{ruleFirst}
+use Rattle.instr.specs.Instr.{instrAt}
+use Rattle.rules.specs.BookLaws.{rule-entry}
+use Rattle.rules.specs.BoundLaws.{binds-variable, length-first, length-binding}
+use Rattle.rules.specs.RuleLaws.{At, many, ruleOf, placeOf, Passed, bound-start, small-here, stands-here, next-here, bound-here, rule-on, rule-stop, rule-end}
+use Rattle.rules.specs.Rules.{bindsOf, has}
+use borrow.Author.Needs.{needs}
+use Rattle.rules.proofs.check_rule.Statement.{statement}
+use Rattle.rules.proofs.check_rule.Tie as tie
+use Rattle.rules.proofs.check_rule.Reads as reads
+use Rattle.rules.proofs.check_rule.Lts as lts
+use Rattle.contents.proofs.first_of.Reads as first-of-reads
+use Rattle.instr.proofs.instr_at.Reads as instr-at-reads
+use Rattle.instr.proofs.next.Reads as next-reads
+use Rattle.rules.proofs.Checking.is_refusal.Reads as is-refusal-reads
+use Rattle.rules.proofs.bound.Bound.first.Reads as first-reads
+use Rattle.rules.proofs.instructions.bind_dst.Reads as bind-dst-reads
+use Rattle.rules.proofs.instructions.check_instr.Reads as check-instr-reads
+use Rattle.words.proofs.size.Reads as size-reads
+use Rattle.words.proofs.word.Reads as word-reads
+
+abbrev Inv-loop : tie.InvT-loop
+Inv-loop words base r first starts n bound₀ p₀ j₀ bound p j = (n ≡ many words r) × (j ≤ n) × (p ≡ placeOf words r j) × (has bound ≡ bound? (ruleOf words r) j) × (length (bound .known) ≡ 32) × Passed words r j
+
+abbrev μ-loop : tie.MeasureT-loop
+μ-loop words base r first starts n bound₀ p₀ j₀ bound p j = n - j
+
+add-first-of : tie.Need-add-first-of Inv-loop μ-loop
+add-first-of c =
+    let a = c .before .args in
+    let q = c .before .pre in
+    omega (arith, q .1, rule-entry (now (a .words)) (q .0) (a .r) (q .2))
+
+first-of-requires : tie.Need-first-of-requires Inv-loop μ-loop
+first-of-requires c κs =
+    let a = c .before .args in
+    let q = c .before .pre in
+    omega (arith, q .1, rule-entry (now (a .words)) (q .0) (a .r) (q .2))
+
+word-requires : tie.Need-word-requires Inv-loop μ-loop
+word-requires c κs = search needs
+
+size-requires : tie.Need-size-requires Inv-loop μ-loop
+size-requires c κs = search needs
+
+add-word : tie.Need-add-word Inv-loop μ-loop
+add-word c = search needs
+
+word-requires-2 : tie.Need-word-requires-2 Inv-loop μ-loop
+word-requires-2 c κs = search needs
+
+size-requires-2 : tie.Need-size-requires-2 Inv-loop μ-loop
+size-requires-2 c κs = search needs
+
+first-requires : tie.Need-first-requires Inv-loop μ-loop
+first-requires c κs = search needs
+
+add-p : tie.Need-add-p Inv-loop μ-loop
+add-p c = search needs
+
+loop-holds : tie.Need-loop-holds Inv-loop μ-loop
+loop-holds c =
+    let a = c .before .before .before .before .before .before .before .args in
+    let q = c .before .before .before .before .before .before .before .pre in
+    let w = now (a .words) in
+    let h = q .0 in
+    let r = a .r in
+    let l = q .2 in
+    let f : c .before .before .before .before .before .first-of .result ≡ ruleFirst w r = c .before .before .before .before .before .first-of .ensures .0 ∙ ap (λ (b : ℕ). firstOf w (b + r)) (q .1) in
+    (c .before .size2 .ensures .0 ∙ c .before .before .word2 .ensures ∙ ap (λ (x : ℕ). getD w (x + 1) 0) f, search needs, ap (λ (x : ℕ). x + 2) f, rw (c .first .ensures, c .before .before .before .size .ensures .0, c .before .before .before .before .word .ensures, f) (bound-start w r h l), rw (c .first .ensures) (length-first _), λ k m. absurd (omega arith))
+
+instr-at-requires : tie.Need-instr-at-requires Inv-loop μ-loop
+instr-at-requires c κs =
+    let l = c .before .loop in
+    let q = c .before .before .before .before .before .before .before .before .before .pre in
+    let x : At (now (c .before .before .before .before .before .before .before .before .before .args .words)) (c .before .before .before .before .before .before .before .before .before .args .r) (l .j) (l .p) (instrAt (now (c .before .before .before .before .before .before .before .before .before .args .words)) (l .p)) = record { readable = q .0; rule = q .2; below = omega (arith, l .inv .0, c .loop-test .taken); place = l .inv .2; is = refl } in
+    small-here x
+
+-- what is known of the instruction, from where it is read on
+here : (c : lts.After-instr-at (first-of-reads.Asked, first-of-reads.Learnt, word-reads.Asked, word-reads.Learnt, size-reads.Asked, size-reads.Learnt, first-reads.Asked, first-reads.Learnt, instr-at-reads.Asked, instr-at-reads.Learnt, check-instr-reads.Asked, check-instr-reads.Learnt, is-refusal-reads.Asked, is-refusal-reads.Learnt, bind-dst-reads.Asked, bind-dst-reads.Learnt, next-reads.Asked, next-reads.Learnt) reads.Pre reads.Post Inv-loop μ-loop) → At (now (c .before .before .before .before .before .before .before .before .before .before .args .words)) (c .before .before .before .before .before .before .before .before .before .before .args .r) (c .before .before .loop .j) (c .before .before .loop .p) (c .instr-at .result)
+here c =
+    let l = c .before .before .loop in
+    let q = c .before .before .before .before .before .before .before .before .before .before .pre in
+    record { readable = q .0; rule = q .2; below = omega (arith, l .inv .0, c .before .loop-test .taken); place = l .inv .2; is = c .instr-at .ensures }
+
+check-instr-requires : tie.Need-check-instr-requires Inv-loop μ-loop
+check-instr-requires c κs = (c .before .before .before .before .before .before .before .before .before .before .pre .0, stands-here (here c))
+
+is-refusal-requires : tie.Need-is-refusal-requires Inv-loop μ-loop
+is-refusal-requires c κs = search needs
+
+returns : tie.Need-returns Inv-loop μ-loop
+returns c =
+    let l = c .before .before .before .before .before .loop in
+    rule-stop (here (c .before .before .before)) (l .bound) (l .inv .3) (c .before .before .check-instr .result) (c .before .before .check-instr .ensures) (sym (c .before .is-refusal .ensures) ∙ c .if1 .taken) (l .inv .5)
+
+bind-dst-requires : tie.Need-bind-dst-requires Inv-loop μ-loop
+bind-dst-requires c κs = binds-variable (now (c .before .before .before .before .before .before .before .before .before .before .before .before .before .args .words)) (c .before .before .before .instr-at .result) (stands-here (here (c .before .before .before)))
+
+next-requires : tie.Need-next-requires Inv-loop μ-loop
+next-requires c κs = small-here (here (c .before .before .before .before))
+
+add-j : tie.Need-add-j Inv-loop μ-loop
+add-j c = search needs
+
+loop-less : tie.Need-loop-less Inv-loop μ-loop
+loop-less c = search needs
+
+loop-again : tie.Need-loop-again Inv-loop μ-loop
+loop-again c =
+    let l = c .before .before .before .before .before .before .before .loop in
+    let x = here (c .before .before .before .before .before) in (
+      l .inv .0,
+      search needs,
+      c .next .ensures ∙ next-here x,
+      ap has (c .before .bind-dst .ensures) ∙ bound-here x (l .bound) (l .inv .3) (l .inv .4),
+      rw (c .before .bind-dst .ensures) (length-binding (bindsOf (c .before .before .before .before .before .instr-at .result)) (l .bound) (l .inv .4)),
+      below-more _ _ (l .inv .5) (rule-on x (l .bound) (l .inv .3) (c .before .before .before .before .check-instr .result) (c .before .before .before .before .check-instr .ensures) (sym (c .before .before .before .is-refusal .ensures) ∙ c .before .before .if1 .left)),
+    )
+
+returns-2 : tie.Need-returns-2 Inv-loop μ-loop
+returns-2 c =
+    let w = now (c .before .before .before .before .before .before .before .before .before .args .words) in
+    let r = c .before .before .before .before .before .before .before .before .before .args .r in
+    let a = c .before .loop in
+    let e : a .j ≡ getD w (ruleFirst w r + 1) 0 = omega (arith, a .inv .0, a .inv .1, c .loop-test .left) in
+    rule-end w r (rw e at (a .inv .5))
+
+pub check-rule-spec : {M : Type 1} → statement M
+check-rule-spec =
+    tie.close
+    (tie.spec
+    Inv-loop
+    μ-loop
+    add-first-of
+    first-of-requires
+    word-requires
+    size-requires
+    add-word
+    word-requires-2
+    size-requires-2
+    first-requires
+    add-p
+    loop-holds
+    instr-at-requires
+    check-instr-requires
+    is-refusal-requires
+    returns
+    bind-dst-requires
+    next-requires
+    add-j
+    loop-less
+    loop-again
+    returns-2)

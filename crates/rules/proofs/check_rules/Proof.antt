@@ -1,0 +1,89 @@
+use Prim.Native.Nat.{ℕ, _-_, _≤_, _<_}
+use mathlib.Core.Option.{none}
+use mathlib.Core.Path.{_≡_, sym, _∙_}
+use native.Mathlib.Omega.{arith}
+use borrow.Author.Count.{below-more}
+use denote.Ref.{now}
+use Rattle.model.specs.Book.Contents.{firstRule, ruleCount}
+use Rattle.model.specs.Outcome.{ruleRefusal}
+use Rattle.rules.specs.BookLaws.{few-entries}
+use Rattle.rules.specs.RuleLaws.{not-refused, rules-stop, rules-end}
+use borrow.Author.Needs.{needs}
+use Rattle.rules.proofs.check_rules.Statement.{statement}
+use Rattle.rules.proofs.check_rules.Tie as tie
+
+abbrev Inv-loop : tie.InvT-loop
+Inv-loop words base n r₀ r = (base ≡ firstRule words) × (n ≡ ruleCount words) × (r ≤ n) × ((k : ℕ) → k < r → ruleRefusal words k ≡ none)
+
+abbrev μ-loop : tie.MeasureT-loop
+μ-loop words base n r₀ r = n - r
+
+sizes-of-requires : tie.Need-sizes-of-requires Inv-loop μ-loop
+sizes-of-requires c κs = few-entries (now (c .before .args .words)) (c .before .pre)
+
+size-requires : tie.Need-size-requires Inv-loop μ-loop
+size-requires c κs = search needs
+
+size-requires-2 : tie.Need-size-requires-2 Inv-loop μ-loop
+size-requires-2 c κs = search needs
+
+add-base : tie.Need-add-base Inv-loop μ-loop
+add-base c = search needs
+
+size-requires-3 : tie.Need-size-requires-3 Inv-loop μ-loop
+size-requires-3 c κs = search needs
+
+loop-holds : tie.Need-loop-holds Inv-loop μ-loop
+loop-holds c =
+    let z = c .before .before .before .sizes-of .ensures in
+    (omega (arith, c .before .before .size .ensures .0, c .before .size2 .ensures .0, z .tables, z .counters), c .size3 .ensures .0 ∙ z .rules, search needs, λ k m. absurd (omega arith))
+
+check-rule-requires : tie.Need-check-rule-requires Inv-loop μ-loop
+check-rule-requires c κs =
+    let a = c .before .loop in
+    (c .before .before .before .before .before .before .before .pre, a .inv .0, omega (arith, a .inv .1, c .loop-test .taken))
+
+is-refusal-requires : tie.Need-is-refusal-requires Inv-loop μ-loop
+is-refusal-requires c κs = search needs
+
+returns : tie.Need-returns Inv-loop μ-loop
+returns c =
+    let a = c .before .before .before .before .loop in
+    rules-stop (now (c .before .before .before .before .before .before .before .before .before .before .args .words)) (a .r) (c .before .before .check-rule .result) (omega (arith, a .inv .1, c .before .before .before .loop-test .taken)) (a .inv .3) (sym (c .before .is-refusal .ensures) ∙ c .if1 .taken) (c .before .before .check-rule .ensures)
+
+add-r : tie.Need-add-r Inv-loop μ-loop
+add-r c = search needs
+
+loop-less : tie.Need-loop-less Inv-loop μ-loop
+loop-less c = search needs
+
+loop-again : tie.Need-loop-again Inv-loop μ-loop
+loop-again c =
+    let a = c .before .before .before .before .loop in
+    (a .inv .0, a .inv .1, search needs, below-more _ _ (a .inv .3) (sym (c .before .before .check-rule .ensures) ∙ not-refused (c .before .before .check-rule .result) (sym (c .before .is-refusal .ensures) ∙ c .if1 .left)))
+
+returns-2 : tie.Need-returns-2 Inv-loop μ-loop
+returns-2 c =
+    let a = c .before .loop in
+    let e : a .r ≡ ruleCount (now (c .before .before .before .before .before .before .before .args .words)) = omega (arith, a .inv .1, a .inv .2, c .loop-test .left) in
+    rules-end (now (c .before .before .before .before .before .before .before .args .words)) (rw e at (a .inv .3))
+
+pub check-rules-spec : {M : Type 1} → statement M
+check-rules-spec =
+    tie.close
+    (tie.spec
+    Inv-loop
+    μ-loop
+    sizes-of-requires
+    size-requires
+    size-requires-2
+    add-base
+    size-requires-3
+    loop-holds
+    check-rule-requires
+    is-refusal-requires
+    returns
+    add-r
+    loop-less
+    loop-again
+    returns-2)

@@ -1,0 +1,99 @@
+use Prim.Native.Nat.{ℕ, _-_, _≤_, _<_}
+use mathlib.Core.Bool.{true}
+use mathlib.Core.Path.{_≡_, sym, _∙_}
+use native.Mathlib.Omega.{arith}
+use borrow.Author.Tests.{not-true, not-false}
+use borrow.Author.Count.{below-more}
+use denote.Ref.{now}
+use Rattle.model.specs.Book.Contents.{firstRule, firstStep, stepCount}
+use Rattle.model.specs.Book.Read.{tables, rules, step, stepFits}
+use Rattle.rules.specs.BookLaws.{few-entries}
+use Rattle.rules.specs.StepLaws.{steps-stop, steps-end}
+use borrow.Author.Needs.{needs}
+use Rattle.rules.proofs.fit_steps.Statement.{statement}
+use Rattle.rules.proofs.fit_steps.Tie as tie
+
+abbrev Inv-loop : tie.InvT-loop
+Inv-loop words base steps n k₀ k = (base ≡ firstRule words) × (steps ≡ firstStep words) × (n ≡ stepCount words) × (k ≤ n) × ((i : ℕ) → i < k → stepFits (tables words) (rules words) (step words i) ≡ true)
+
+abbrev μ-loop : tie.MeasureT-loop
+μ-loop words base steps n k₀ k = n - k
+
+sizes-of-requires : tie.Need-sizes-of-requires Inv-loop μ-loop
+sizes-of-requires c κs = few-entries (now (c .before .args .words)) (c .before .pre)
+
+size-requires : tie.Need-size-requires Inv-loop μ-loop
+size-requires c κs = search needs
+
+size-requires-2 : tie.Need-size-requires-2 Inv-loop μ-loop
+size-requires-2 c κs = search needs
+
+add-base : tie.Need-add-base Inv-loop μ-loop
+add-base c = search needs
+
+size-requires-3 : tie.Need-size-requires-3 Inv-loop μ-loop
+size-requires-3 c κs = search needs
+
+add-steps : tie.Need-add-steps Inv-loop μ-loop
+add-steps c = search needs
+
+size-requires-4 : tie.Need-size-requires-4 Inv-loop μ-loop
+size-requires-4 c κs = search needs
+
+loop-holds : tie.Need-loop-holds Inv-loop μ-loop
+loop-holds c =
+    let z = c .before .before .before .before .sizes-of .ensures in
+    (omega (arith, c .before .before .before .size .ensures .0, c .before .before .size2 .ensures .0, z .tables, z .counters), omega (arith, c .before .before .before .size .ensures .0, c .before .before .size2 .ensures .0, c .before .size3 .ensures .0, z .tables, z .counters, z .rules), c .size4 .ensures .0 ∙ z .steps, search needs, λ i m. absurd (omega arith))
+
+step-fits-requires : tie.Need-step-fits-requires Inv-loop μ-loop
+step-fits-requires c κs =
+    let a = c .before .loop in
+    (c .before .before .before .before .before .before .before .before .pre, a .inv .0, a .inv .1, omega (arith, a .inv .2, c .loop-test .taken))
+
+add-t11 : tie.Need-add-t11 Inv-loop μ-loop
+add-t11 c = search needs
+
+returns : tie.Need-returns Inv-loop μ-loop
+returns c =
+    let a = c .before .before .before .loop in
+    let w = now (c .before .before .before .before .before .before .before .before .before .before .args .words) in
+    rw (a .inv .1) (steps-stop w (a .k) (omega (arith, a .inv .2, c .before .before .loop-test .taken)) (a .inv .4) (sym (c .before .step-fits .ensures) ∙ not-true _ (c .if1 .taken)))
+
+add-k : tie.Need-add-k Inv-loop μ-loop
+add-k c = search needs
+
+loop-less : tie.Need-loop-less Inv-loop μ-loop
+loop-less c = search needs
+
+loop-again : tie.Need-loop-again Inv-loop μ-loop
+loop-again c =
+    let a = c .before .before .before .loop in
+    (a .inv .0, a .inv .1, a .inv .2, search needs, below-more _ _ (a .inv .4) (sym (c .before .step-fits .ensures) ∙ not-false _ (c .if1 .left)))
+
+returns-2 : tie.Need-returns-2 Inv-loop μ-loop
+returns-2 c =
+    let a = c .before .loop in
+    let e : a .k ≡ stepCount (now (c .before .before .before .before .before .before .before .before .args .words)) = omega (arith, a .inv .2, a .inv .3, c .loop-test .left) in
+    steps-end (now (c .before .before .before .before .before .before .before .before .args .words)) (rw e at (a .inv .4))
+
+pub fit-steps-spec : {M : Type 1} → statement M
+fit-steps-spec =
+    tie.close
+    (tie.spec
+    Inv-loop
+    μ-loop
+    sizes-of-requires
+    size-requires
+    size-requires-2
+    add-base
+    size-requires-3
+    add-steps
+    size-requires-4
+    loop-holds
+    step-fits-requires
+    add-t11
+    returns
+    add-k
+    loop-less
+    loop-again
+    returns-2)

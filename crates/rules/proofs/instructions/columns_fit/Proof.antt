@@ -1,0 +1,190 @@
+use mathlib.Core.Bool.{and-true}
+use native.Mathlib.Omega.{arith}
+use denote.Ref.{now}
+use Rattle.model.specs.Check.{columnsOf}
+use Rattle.instr.specs.Meaning.{instrOf}
+use Rattle.rules.specs.BookLaws.{few-tables, table-keys, table-width}
+use borrow.Author.Needs.{needs}
+use Rattle.rules.proofs.instructions.columns_fit.Statement.{statement}
+use Rattle.rules.proofs.instructions.columns_fit.Tie as tie
+
+enum-known-i : tie.Need-enum-known-i
+enum-known-i c = search needs
+
+column-fits-requires : tie.Need-column-fits-requires
+column-fits-requires c κs =
+    let q = c .before .before .before .before .pre in
+    let s = rw (c .before .i .given .1) at (q .1) in
+    omega (arith, s .0, few-tables (now (c .before .before .before .before .args .words)) (q .0))
+
+keys-of-requires : tie.Need-keys-of-requires
+keys-of-requires c κs =
+    let q = c .before .before .before .before .before .pre in
+    let s = rw (c .before .before .i .given .1) at (q .1) in
+    omega (arith, s .0, few-tables (now (c .before .before .before .before .before .args .words)) (q .0))
+
+currents-fit-requires : tie.Need-currents-fit-requires
+currents-fit-requires c κs =
+    let s = rw (c .before .before .before .i .given .1) at (c .before .before .before .before .before .before .pre .1) in
+    (s .2, c .keys-of .ensures .1)
+
+enum-known-i-2 : tie.Need-enum-known-i-2
+enum-known-i-2 c = search needs
+
+column-fits-requires-2 : tie.Need-column-fits-requires-2
+column-fits-requires-2 c κs =
+    let q = c .before .before .before .before .pre in
+    let s = rw (c .before .i2 .given .1) at (q .1) in
+    omega (arith, s .0, few-tables (now (c .before .before .before .before .args .words)) (q .0))
+
+enum-known-i-3 : tie.Need-enum-known-i-3
+enum-known-i-3 c = search needs
+
+column-fits-requires-3 : tie.Need-column-fits-requires-3
+column-fits-requires-3 c κs =
+    let q = c .before .before .before .before .pre in
+    let s = rw (c .before .i3 .given .1) at (q .1) in
+    omega (arith, s .0, few-tables (now (c .before .before .before .before .args .words)) (q .0))
+
+enum-known-i-4 : tie.Need-enum-known-i-4
+enum-known-i-4 c = search needs
+
+column-fits-requires-4 : tie.Need-column-fits-requires-4
+column-fits-requires-4 c κs =
+    let q = c .before .before .before .before .pre in
+    let s = rw (c .before .i4 .given .1) at (q .1) in
+    omega (arith, s .0, few-tables (now (c .before .before .before .before .args .words)) (q .0))
+
+enum-told : tie.Need-enum-told
+enum-told c = search needs
+
+enum-told-2 : tie.Need-enum-told-2
+enum-told-2 c = search needs
+
+enum-told-3 : tie.Need-enum-told-3
+enum-told-3 c = search needs
+
+enum-told-4 : tie.Need-enum-told-4
+enum-told-4 c = search needs
+
+enum-told-5 : tie.Need-enum-told-5
+enum-told-5 c = search needs
+
+enum-told-6 : tie.Need-enum-told-6
+enum-told-6 c = search needs
+
+enum-told-7 : tie.Need-enum-told-7
+enum-told-7 c = search needs
+
+enum-told-8 : tie.Need-enum-told-8
+enum-told-8 c = search needs
+
+enum-told-9 : tie.Need-enum-told-9
+enum-told-9 c = search needs
+
+returns : tie.Need-returns
+unfolding instrOf columnsOf
+returns c =
+    let a = c .before .before .before .before .before .before .before .args in
+    let q = c .before .before .before .before .before .before .before .pre in
+    let e = c .before .before .before .before .i .given in
+    let w = now (a .words) in
+    let s = rw (e .1) at (q .1) in
+    rw (e .1, c .before .before .column-fits .ensures, c .currents-fit .ensures, c .before .keys-of .ensures .0, table-width w (q .0) (e .0 .0 .0) (s .0), table-keys w (q .0) (e .0 .0 .0) (s .0))
+
+returns-2 : tie.Need-returns-2
+unfolding instrOf columnsOf
+returns-2 c =
+    let q = c .before .before .before .before .before .pre in
+    let e = c .before .before .i2 .given in
+    let s = rw (e .1) at (q .1) in
+    rw (e .1, c .column-fits2 .ensures, table-width (now (c .before .before .before .before .before .args .words)) (q .0) (e .0 .0 .0) (s .0), and-true)
+
+returns-3 : tie.Need-returns-3
+unfolding instrOf columnsOf
+returns-3 c =
+    let q = c .before .before .before .before .before .pre in
+    let e = c .before .before .i3 .given in
+    let s = rw (e .1) at (q .1) in
+    rw (e .1, c .column-fits3 .ensures, table-width (now (c .before .before .before .before .before .args .words)) (q .0) (e .0 .0 .0) (s .0), and-true)
+
+returns-4 : tie.Need-returns-4
+unfolding instrOf columnsOf
+returns-4 c =
+    let q = c .before .before .before .before .before .pre in
+    let e = c .before .before .i4 .given in
+    let s = rw (e .1) at (q .1) in
+    rw (e .1, c .column-fits4 .ensures, table-width (now (c .before .before .before .before .before .args .words)) (q .0) (e .0 .0 .0) (s .0), and-true)
+
+returns-5 : tie.Need-returns-5
+unfolding instrOf columnsOf
+returns-5 c = rw (c .enum-told .given .1)
+
+returns-6 : tie.Need-returns-6
+unfolding instrOf columnsOf
+returns-6 c = rw (c .enum-told2 .given .1)
+
+returns-7 : tie.Need-returns-7
+unfolding instrOf columnsOf
+returns-7 c = rw (c .enum-told3 .given .1)
+
+returns-8 : tie.Need-returns-8
+unfolding instrOf columnsOf
+returns-8 c = rw (c .enum-told4 .given .1)
+
+returns-9 : tie.Need-returns-9
+unfolding instrOf columnsOf
+returns-9 c = rw (c .enum-told5 .given .1)
+
+returns-10 : tie.Need-returns-10
+unfolding instrOf columnsOf
+returns-10 c = rw (c .enum-told6 .given .1)
+
+returns-11 : tie.Need-returns-11
+unfolding instrOf columnsOf
+returns-11 c = rw (c .enum-told7 .given .1)
+
+returns-12 : tie.Need-returns-12
+unfolding instrOf columnsOf
+returns-12 c = rw (c .enum-told8 .given .1)
+
+returns-13 : tie.Need-returns-13
+unfolding instrOf columnsOf
+returns-13 c = rw (c .enum-told9 .given .1)
+
+pub columns-fit-spec : {M : Type 1} → statement M
+columns-fit-spec =
+    tie.close
+    (tie.spec
+    enum-known-i
+    column-fits-requires
+    keys-of-requires
+    currents-fit-requires
+    enum-known-i-2
+    column-fits-requires-2
+    enum-known-i-3
+    column-fits-requires-3
+    enum-known-i-4
+    column-fits-requires-4
+    enum-told
+    enum-told-2
+    enum-told-3
+    enum-told-4
+    enum-told-5
+    enum-told-6
+    enum-told-7
+    enum-told-8
+    enum-told-9
+    returns
+    returns-2
+    returns-3
+    returns-4
+    returns-5
+    returns-6
+    returns-7
+    returns-8
+    returns-9
+    returns-10
+    returns-11
+    returns-12
+    returns-13)

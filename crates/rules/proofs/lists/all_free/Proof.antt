@@ -1,0 +1,79 @@
+use Prim.Native.Nat.{ℕ, _+_, _*_, _≤_, _<_, _-_}
+use mathlib.Core.Bool.{true}
+use mathlib.Core.Path.{_≡_, sym, ap, _∙_}
+use native.Mathlib.Omega.{arith}
+use borrow.Author.Tests.{not-true, not-false}
+use borrow.Author.Count.{below-more}
+use denote.Ref.{now}
+use Rattle.model.specs.Book.Decode as decode
+use Rattle.model.specs.Book.Syntax.{QueryEntry}
+use Rattle.model.specs.Check.{free?}
+use Rattle.instr.specs.InstrLaws.{entry-at}
+use Rattle.instr.specs.Meaning.{entryOf}
+use Rattle.rules.specs.TestLaws.{entries-no, entries-yes}
+use borrow.Author.Needs.{needs}
+use Rattle.rules.proofs.lists.all_free.Statement.{statement}
+use Rattle.rules.proofs.lists.all_free.Tie as tie
+
+abbrev Inv-loop : tie.InvT-loop
+Inv-loop words dst at count k₀ k = (k ≤ count) × ((i : ℕ) → i < k → free? (dst .0, decode.entryAt words (at + 2 * i)) ≡ true)
+
+abbrev μ-loop : tie.MeasureT-loop
+μ-loop words dst at count k₀ k = count - k
+
+loop-holds : tie.Need-loop-holds Inv-loop μ-loop
+loop-holds c = (search needs, λ i h. absurd (omega arith))
+
+mul-entry-at : tie.Need-mul-entry-at Inv-loop μ-loop
+mul-entry-at c = search needs
+
+add-entry-at : tie.Need-add-entry-at Inv-loop μ-loop
+add-entry-at c = search needs
+
+entry-at-requires : tie.Need-entry-at-requires Inv-loop μ-loop
+entry-at-requires c κs = search needs
+
+free-requires : tie.Need-free-requires Inv-loop μ-loop
+free-requires c κs = search needs
+
+returns : tie.Need-returns Inv-loop μ-loop
+returns c =
+    let a = c .before .before .before .before .before .before .args in
+    let w = now (a .words) in
+    entries-no w (a .list) (λ e. free? (a .dst .0, e)) (c .before .before .before .before .loop .k) (c .before .before .before .loop-test .taken) (sym (c .before .free .ensures ∙ ap (λ (e : QueryEntry). free? (a .dst .0, e)) (ap entryOf (c .before .before .entry-at .ensures) ∙ entry-at w _)) ∙ not-true _ (c .if1 .taken))
+
+add-k : tie.Need-add-k Inv-loop μ-loop
+add-k c = search needs
+
+loop-less : tie.Need-loop-less Inv-loop μ-loop
+loop-less c = search needs
+
+loop-again : tie.Need-loop-again Inv-loop μ-loop
+loop-again c =
+    let a = c .before .before .before .before .before .before .args in
+    let w = now (a .words) in
+    (search needs, below-more _ _ (c .before .before .before .before .loop .inv .1) (sym (c .before .free .ensures ∙ ap (λ (e : QueryEntry). free? (a .dst .0, e)) (ap entryOf (c .before .before .entry-at .ensures) ∙ entry-at w _)) ∙ not-false _ (c .if1 .left)))
+
+returns-2 : tie.Need-returns-2 Inv-loop μ-loop
+returns-2 c =
+    let a = c .before .before .before .args in
+    let l = c .before .loop in
+    let e : l .k ≡ a .list .count = omega arith in
+    entries-yes (now (a .words)) (a .list) (λ e. free? (a .dst .0, e)) (rw e at (l .inv .1))
+
+pub all-free-spec : {M : Type 1} → statement M
+all-free-spec =
+    tie.close
+    (tie.spec
+    Inv-loop
+    μ-loop
+    loop-holds
+    mul-entry-at
+    add-entry-at
+    entry-at-requires
+    free-requires
+    returns
+    add-k
+    loop-less
+    loop-again
+    returns-2)
