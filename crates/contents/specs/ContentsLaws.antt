@@ -10,9 +10,9 @@ use lib.Dec.{eqb, ltb, leb}
 use borrow.Author.Tests.{lt-ltb, le-ltb, le-leb, lt-leb, eq-eqb, ne-eqb, eqb-true, eqb-false}
 use lib.ListN.{length, getD, set}
 use lib.Seq.{getD-set-same, getD-set-other}
-use Rattle.model.specs.Basics.{when}
 use Rattle.model.specs.Laws.Lists.{none-least, some-least}
 use Rattle.model.specs.Book.Contents.{group, most, count, groupOf, firstOf, members, begins, lastGroup, entryFits, countFits, contentsRefusal}
+use Rattle.model.specs.Laws.Contents.{members-le}
 
 pub group-rest : (k : ℕ) → (0 < k → 5 < k) → 0 ≡ group k
 group-rest zero h = refl
@@ -49,15 +49,6 @@ module _ (last g seen first end : ℕ) where
   by-place h e m = rw (le-leb last g h, lt-ltb 0 g (omega arith), le-leb seen (most g) m)
 
 module _ (w : List ℕ) where
-  pub members-le : (k i : ℕ) → members w k i ≤ i
-  unfolding members
-  members-le k zero = omega arith
-  members-le k (suc i) = by (eqb (groupOf w i) k) (members-le k i)
-    where
-      by : (b : Bool) → members w k i ≤ i → when b suc (members w k i) ≤ suc i
-      by true h = omega arith
-      by false h = omega arith
-
   pub own-group : (i : ℕ) → members w (groupOf w i) (suc i) ≡ suc (members w (groupOf w i) i)
   unfolding members
   own-group i = rw (eq-eqb (groupOf w i) (groupOf w i) refl)
@@ -79,7 +70,7 @@ module _ (w : List ℕ) where
   no-counts (suc (suc (suc (suc (suc k))))) h = absurd (omega arith)
 
   pub small-count : (counts : List ℕ) (i k : ℕ) → Counts counts i → k < 5 → i ≤ 128 → getD counts k 0 ≤ 128
-  small-count counts i k h l m = omega (arith, h k l, members-le k i)
+  small-count counts i k h l m = omega (arith, h k l, members-le w k i)
 
   pub more-counts : (counts : List ℕ) (i g seen : ℕ) → Counts counts i → length counts ≡ 5 → g < 5 → g ≡ groupOf w i → seen ≡ getD counts g 0 + 1 → Counts (set counts g seen) (i + 1)
   more-counts counts i g seen h n l e s k m = rw add-one (by (eqb k g) refl)

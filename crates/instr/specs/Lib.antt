@@ -1,3 +1,5 @@
 pub mod Instr
 pub mod Meaning
 pub mod InstrLaws
+pub mod Stands
+pub mod StandsLaws

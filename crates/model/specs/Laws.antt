@@ -8,6 +8,8 @@ pub mod Rows
 pub mod Steps
 pub mod Scan
 pub mod Bodies
+pub mod Kinds
 pub mod Read
+pub mod Book
 pub mod Turns
 pub mod Passes

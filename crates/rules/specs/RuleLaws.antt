@@ -26,11 +26,15 @@ use Rattle.instr.specs.Meaning.{instrOf}
 use Rattle.instr.specs.InstrLaws.{instr-at}
 use Rattle.rules.specs.declared.Checking.{Checking}
 use Rattle.rules.specs.declared.Checking.the-variants.{Pass, Size, Unbound, HeldOut, Column}
-use Rattle.rules.specs.declared.bound.Bound.{Bound}
-use Rattle.rules.specs.Rules.{refusalOf, isRefusal, placedAt, has, firstBound, binding, Readable, Stands, bindsOf}
-use Rattle.rules.specs.BookLaws.{rule-inside, rule-read}
-use Rattle.rules.specs.StandsLaws.{stands}
-use Rattle.rules.specs.BoundLaws.{has-first, has-binding, binds, binds-variable}
+use Rattle.bound.specs.declared.Bound.{Bound}
+use Rattle.rules.specs.Rules.{refusalOf, isRefusal, placedAt}
+use Rattle.bound.specs.Bound.{has, firstBound, binding}
+use Rattle.model.specs.Laws.Book.{Readable}
+use Rattle.instr.specs.Stands.{Stands, bindsOf}
+use Rattle.model.specs.Laws.Kinds.{rule-read}
+use Rattle.instr.specs.StandsLaws.{stands}
+use Rattle.bound.specs.BoundLaws.{has-first, has-binding}
+use Rattle.instr.specs.StandsLaws.{binds, binds-variable}
 
 -- ## What an answer says
 
@@ -130,11 +134,11 @@ module _ (w : List ℕ) (r : ℕ) where
 
   module _ (h : Readable w) (l : r < ruleCount w) where
     place-small : (j : ℕ) → j ≤ many → placeOf j ≤ 16384
-    place-small j m = omega (arith, places-on w first j many m, rule-read w h r l .fills, rule-inside w h r l .within, h .most)
+    place-small j m = omega (arith, places-on w first j many m, rule-read w (h .contents) (h .bodies) r l .1 .fills, rule-read w (h .contents) (h .bodies) r l .0 .within, h .most)
 
     pub bound-start : has (firstBound (getD w first 0)) ≡ bound? ruleOf 0
     unfolding bound? decode.readRule
-    bound-start = fun-ext (has-first (getD w first 0) (rule-read w h r l .starts))
+    bound-start = fun-ext (has-first (getD w first 0) (rule-read w (h .contents) (h .bodies) r l .1 .starts))
 
 -- ## At an instruction: j of rule r stands at p, and is i
 
@@ -150,7 +154,7 @@ module _ {w : List ℕ} {r j p : ℕ} {i : code.Instr} (x : At w r j p i) where
   small-here = omega (arith, x .place, place-small w r (x .readable) (x .rule) j (omega (arith, x .below)))
 
   pub stands-here : Stands w i
-  stands-here = rw (x .is) (stands w (endOf w (firstRule w + r)) p small-here (rw (x .place) (rule-read w (x .readable) r (x .rule) .instrs j (x .below))))
+  stands-here = rw (x .is) (stands w (endOf w (firstRule w + r)) p small-here (rw (x .place) (rule-read w (x .readable .contents) (x .readable .bodies) r (x .rule) .1 .instrs j (x .below))))
 
   pub next-here : decode.next w p ≡ placeOf w r (j + 1)
   next-here = rw (x .place, add-one)

@@ -14,8 +14,9 @@ use Rattle.model.specs.Outcome.{ruleFirst}
 use Rattle.model.specs.Laws.Logic.{either}
 use Rattle.model.specs.Laws.Lists.{none-least, some-least, length-tab}
 use Rattle.model.specs.Laws.Bodies.{length-part}
-use Rattle.rules.specs.Rules.{Readable, keysOf, widthOf}
-use Rattle.rules.specs.BookLaws.{step-inside, step-kind, batch-read, prediction-read, rule-is, table-keys, table-width}
+use Rattle.model.specs.Laws.Book.{Readable, keysOf, widthOf}
+use Rattle.model.specs.Laws.Kinds.{step-inside, step-kind, batch-read, prediction-read}
+use Rattle.model.specs.Laws.Book.{rule-is, table-keys, table-width}
 
 module _ (w : List ℕ) (h : Readable w) (at : ℕ) where
   pub batch-test : getD w at 0 < ruleCount w
@@ -37,20 +38,20 @@ module _ (w : List ℕ) (h : Readable w) (k e at : ℕ) (l : k < stepCount w) (i
 
   pub batch-here : kindOf w e ≡ 4 → (at ≤ 16384) × (getD w at 0 < ruleCount w)
   batch-here q =
-      let s = step-inside w h k l in
-      rw place (omega (arith, s .order, s .within, h .most), batch-read w h k l (rw is at q) .rule)
+      let s = step-inside w (h .contents) (h .bodies) k l in
+      rw place (omega (arith, s .order, s .within, h .most), batch-read w (h .contents) (h .bodies) k l (rw is at q) .rule)
 
   pub step-batch : kindOf w e ≡ 4 → readBatch w at ≡ step w k
   unfolding readStep
   step-batch q = rw (place, ← is, q)
 
   pub not-batch : (kindOf w e ≡ 4 → ⊥) → kindOf w e ≡ 5
-  not-batch n = rw is (either (λ q. absurd (n (rw is q))) (λ q. q) (step-kind w h k l))
+  not-batch n = rw is (either (λ q. absurd (n (rw is q))) (λ q. q) (step-kind w (h .contents) (h .bodies) k l))
 
   pub prediction-here : kindOf w e ≡ 5 → (at ≤ 16384) × (getD w at 0 < tableCount w) × (at + 2 + getD w (at + 1) 0 ≤ length w)
   prediction-here q =
-      let s = step-inside w h k l in
-      let p = prediction-read w h k l (rw is at q) in
+      let s = step-inside w (h .contents) (h .bodies) k l in
+      let p = prediction-read w (h .contents) (h .bodies) k l (rw is at q) in
       rw place (omega (arith, s .order, s .within, h .most), p .table, omega (arith, p .fills, s .within))
 
   pub step-prediction : kindOf w e ≡ 5 → readPrediction w at ≡ step w k

@@ -6,11 +6,14 @@ ghost use Rattle.model.specs.Book.Read.{tables};
 ghost use Rattle.model.specs.Check as check;
 ghost use Rattle.model.specs.Machine.Functions as functions;
 ghost use Rattle.instr.specs.Meaning.{instrOf};
-ghost use Rattle.rules.specs.Rules.{refusalOf, placedAt, has, binding, Readable, Stands, bindsOf, IsVariable};
+ghost use Rattle.rules.specs.Rules.{refusalOf, placedAt};
+ghost use Rattle.bound.specs.Bound.{has, binding};
+ghost use Rattle.model.specs.Laws.Book.{Readable};
+ghost use Rattle.instr.specs.Stands.{Stands, bindsOf, IsVariable};
 use crate::Checking;
-use crate::bound::Bound;
 use crate::lists;
 use crate::shapes;
+use bound::Bound;
 use instr::Instr;
 
 // Refusal 8 is not drawn: its lists are as long as its table and functions ask.

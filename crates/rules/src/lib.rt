@@ -6,9 +6,9 @@ ghost use Rattle.model.specs.Basics.{_else_};
 ghost use Rattle.model.specs.Book.Contents as contents;
 ghost use Rattle.model.specs.Book.Read as read;
 ghost use Rattle.model.specs.Outcome as outcome;
-ghost use Rattle.rules.specs.Rules.{refusalOf, isRefusal, unfitOf, verdictOf, Readable};
+ghost use Rattle.rules.specs.Rules.{refusalOf, isRefusal, unfitOf, verdictOf};
+ghost use Rattle.model.specs.Laws.Book.{Readable};
 
-mod bound;
 mod instructions;
 mod lists;
 mod shapes;

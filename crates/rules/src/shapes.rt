@@ -2,20 +2,13 @@
 ghost use mathlib.Core.Path.{_≡_};
 ghost use Prim.Native.Nat.{_+_, _<_};
 ghost use lib.Dec.{eqb, ltb};
-ghost use Rattle.model.specs.Machine.Functions as functions;
-ghost use Rattle.rules.specs.Rules.{keysOf, widthOf, Short};
+ghost use Rattle.model.specs.Machine.Functions.{arity};
+ghost use Rattle.model.specs.Laws.Book.{keysOf, widthOf};
+ghost use Rattle.instr.specs.Stands.{Short};
 use ids::ColumnId;
 use ids::ExternalFunctionId;
 use ids::TableId;
 use instr::Entries;
-
-// How many arguments a function takes.
-pub fn arity(func: ExternalFunctionId) -> usize
-    ensures { λ r. ⌜ r ≡ functions.arity (func .0) ⌝ }
-{
-    let f = func.0;
-    if f == 6 { 1 } else { 2 }
-}
 
 // The key count of a table.
 pub fn keys_of(words: &[u32], table: TableId) -> usize
@@ -60,9 +53,9 @@ pub fn row_fits(words: &[u32], table: TableId, args: Entries, default: Entries) 
 }
 
 pub fn takes(func: ExternalFunctionId, args: Entries) -> bool
-    ensures { λ r. ⌜ r ≡ eqb (args .count) (functions.arity (func .0)) ⌝ }
+    ensures { λ r. ⌜ r ≡ eqb (args .count) (arity (func .0)) ⌝ }
 {
-    args.count == arity(func)
+    args.count == functions::arity(func)
 }
 
 pub fn column_fits(words: &[u32], table: TableId, col: ColumnId) -> bool

@@ -5,7 +5,7 @@ ghost use lib.ListN.{length, getD};
 ghost use Rattle.model.specs.Book.Contents as contents;
 ghost use Rattle.model.specs.Book.Decode as decode;
 ghost use Rattle.model.specs.Book.Read as read;
-ghost use Rattle.rules.specs.Rules.{Readable};
+ghost use Rattle.model.specs.Laws.Book.{Readable};
 use crate::shapes;
 use ids::TableId;
 

@@ -9,9 +9,9 @@ use native.Mathlib.Omega.{arith}
 use lib.Dec.{eqb, leb, lit≤}
 use borrow.Author.Tests.{ltb-true, leb-true, leb-false, eqb-true, eqb-false, lt-ltb, le-leb, lt-leb, eq-eqb, ne-eqb, not-false}
 use lib.ListN.{length}
-use Rattle.model.specs.Basics.{least, howMany}
+use Rattle.model.specs.Basics.{when, least, howMany}
 use Rattle.model.specs.Book.Words.{unless}
-use Rattle.model.specs.Book.Contents.{group, count, kindOf, groupOf, firstOf, endOf, members, begins, entryFits, countFits, contentsRefusal, tableCount, counterCount, ruleCount, stepCount, firstRule, firstStep}
+use Rattle.model.specs.Book.Contents.{group, most, count, kindOf, groupOf, firstOf, endOf, members, begins, entryFits, countFits, contentsRefusal, tableCount, counterCount, ruleCount, stepCount, firstRule, firstStep}
 use Rattle.model.specs.Claims.Refusals.{CountOk, EntryOk, EndOk}
 use Rattle.model.specs.Laws.Logic.{and-split, and-join, seq-none, unless-none, either, le-cases}
 use Rattle.model.specs.Laws.Lists.{below-suc, least-none}
@@ -24,6 +24,15 @@ pub record ContentsOk (w : List ℕ) : Type 0 where
   pub ends : EndOk w
 
 module _ (w : List ℕ) where
+  pub members-le : (k i : ℕ) → members w k i ≤ i
+  unfolding members
+  members-le k zero = omega arith
+  members-le k (suc i) = by (eqb (groupOf w i) k) (members-le k i)
+    where
+      by : (b : Bool) → members w k i ≤ i → when b suc (members w k i) ≤ suc i
+      by true h = omega arith
+      by false h = omega arith
+
   pub count-ok : countFits w ≡ true → CountOk w
   unfolding countFits
   count-ok e =
@@ -226,3 +235,17 @@ module _ (w : List ℕ) (ok : ContentsOk w) where
     where
       the-sum : (a i : ℕ) → 0 + i ≡ i
       the-sum a i = omega arith
+
+-- no group has more entries than it may
+module _ (w : List ℕ) (ok : ContentsOk w) where
+  pub members-most : (g n : ℕ) → n ≤ count w → members w g n ≤ most g
+  unfolding members
+  members-most g zero h = omega arith
+  members-most g (suc n) h = by (eqb (groupOf w n) g) refl (members-most g n (omega arith))
+    where
+      by : (b : Bool) → eqb (groupOf w n) g ≡ b → members w g n ≤ most g → when b suc (members w g n) ≤ most g
+      by false e before = before
+      by true e before =
+          let q : groupOf w n ≡ g = eqb-true _ _ e in
+          let r : members w g (suc n) ≤ most g = subst (λ (x : ℕ). members w x (suc n) ≤ most x) q (ok .entries n (omega arith) .room) in
+          subst (λ (b : Bool). when b suc (members w g n) ≤ most g) e r

@@ -6,7 +6,7 @@ use borrow.Author.Count.{below-more}
 use denote.Ref.{now}
 use Rattle.model.specs.Book.Contents.{firstRule, ruleCount}
 use Rattle.model.specs.Outcome.{ruleRefusal}
-use Rattle.rules.specs.BookLaws.{few-entries}
+use Rattle.model.specs.Laws.Book.{few-entries}
 use Rattle.rules.specs.RuleLaws.{not-refused, rules-stop, rules-end}
 use borrow.Author.Needs.{needs}
 use Rattle.rules.proofs.check_rules.Statement.{statement}

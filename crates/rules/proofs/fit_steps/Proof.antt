@@ -7,7 +7,7 @@ use borrow.Author.Count.{below-more}
 use denote.Ref.{now}
 use Rattle.model.specs.Book.Contents.{firstRule, firstStep, stepCount}
 use Rattle.model.specs.Book.Read.{tables, rules, step, stepFits}
-use Rattle.rules.specs.BookLaws.{few-entries}
+use Rattle.model.specs.Laws.Book.{few-entries}
 use Rattle.rules.specs.StepLaws.{steps-stop, steps-end}
 use borrow.Author.Needs.{needs}
 use Rattle.rules.proofs.fit_steps.Statement.{statement}

@@ -3,7 +3,7 @@ use native.Mathlib.Omega.{arith}
 use denote.Ref.{now}
 use Rattle.model.specs.Check.{columnsOf}
 use Rattle.instr.specs.Meaning.{instrOf}
-use Rattle.rules.specs.BookLaws.{few-tables, table-keys, table-width}
+use Rattle.model.specs.Laws.Book.{few-tables, table-keys, table-width}
 use borrow.Author.Needs.{needs}
 use Rattle.rules.proofs.instructions.columns_fit.Statement.{statement}
 use Rattle.rules.proofs.instructions.columns_fit.Tie as tie

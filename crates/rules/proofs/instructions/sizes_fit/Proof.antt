@@ -3,7 +3,7 @@ use native.Mathlib.Omega.{arith}
 use denote.Ref.{now}
 use Rattle.model.specs.Check.{sizesOf}
 use Rattle.instr.specs.Meaning.{instrOf}
-use Rattle.rules.specs.BookLaws.{few-tables, table-keys, table-width}
+use Rattle.model.specs.Laws.Book.{few-tables, table-keys, table-width}
 use Rattle.rules.specs.TestLaws.{count-entries, count-writes}
 use borrow.Author.Needs.{needs}
 use Rattle.rules.proofs.instructions.sizes_fit.Statement.{statement}

@@ -1,7 +1,7 @@
 use mathlib.Core.Path.{sym}
 use native.Mathlib.Omega.{arith}
 use denote.Ref.{now}
-use Rattle.rules.specs.BookLaws.{rule-entry}
+use Rattle.model.specs.Laws.Book.{rule-entry}
 use Rattle.rules.specs.StepLaws.{batch-test}
 use borrow.Author.Needs.{needs}
 use Rattle.rules.proofs.steps.batch_fits.Statement.{statement}

@@ -1,7 +1,7 @@
 use mathlib.Core.Path.{sym}
 use native.Mathlib.Omega.{arith}
 use denote.Ref.{now}
-use Rattle.rules.specs.BookLaws.{few-tables}
+use Rattle.model.specs.Laws.Book.{few-tables}
 use Rattle.rules.specs.StepLaws.{prediction-test}
 use borrow.Author.Needs.{needs}
 use Rattle.rules.proofs.steps.prediction_fits.Statement.{statement}

@@ -3,7 +3,7 @@ use mathlib.Core.Path.{sym, ap, _∙_}
 use native.Mathlib.Omega.{arith}
 use denote.Ref.{now}
 use Rattle.model.specs.Book.Read.{tables, rules, stepFits}
-use Rattle.rules.specs.BookLaws.{step-entry}
+use Rattle.model.specs.Laws.Book.{step-entry}
 use Rattle.rules.specs.StepLaws.{batch-here, step-batch, not-batch, prediction-here, step-prediction}
 use Rattle.rules.proofs.steps.step_fits.Statement.{statement}
 use Rattle.rules.proofs.steps.step_fits.Tie as tie

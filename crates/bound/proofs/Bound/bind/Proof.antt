@@ -1,6 +1,6 @@
 use borrow.Author.Needs.{needs}
-use Rattle.rules.proofs.bound.Bound.bind.Statement.{statement}
-use Rattle.rules.proofs.bound.Bound.bind.Tie as tie
+use Rattle.bound.proofs.Bound.bind.Statement.{statement}
+use Rattle.bound.proofs.Bound.bind.Tie as tie
 
 size-requires : tie.Need-size-requires
 size-requires c κs = search needs

@@ -2,7 +2,7 @@
 ghost use mathlib.Core.Path.{_≡_};
 ghost use mathlib.Core.Option.{some};
 ghost use Prim.Native.Nat.{_<_};
-ghost use Rattle.rules.specs.Rules.{has, firstBound, binding};
+ghost use Rattle.bound.specs.Bound.{has, firstBound, binding};
 use ids::Variable;
 
 // Which of the 32 variables are bound.

@@ -7,8 +7,8 @@ use lib.Dec.{ltb}
 use lib.ListN.{replicate, length-set, length}
 use Rattle.words.specs.Filled.{filled, filled-none, filled-turn, filled-all}
 use borrow.Author.Needs.{needs}
-use Rattle.rules.proofs.bound.Bound.first.Statement.{statement}
-use Rattle.rules.proofs.bound.Bound.first.Tie as tie
+use Rattle.bound.proofs.Bound.first.Statement.{statement}
+use Rattle.bound.proofs.Bound.first.Tie as tie
 
 abbrev Inv-loop : tie.InvT-loop
 Inv-loop n known₀ v₀ known v = (v ≤ 32) × (length known ≡ 32) × (known ≡ filled (λ v. ltb v n) v known₀)

@@ -1,10 +1,10 @@
 use mathlib.Core.Path.{_≡_}
 use native.Mathlib.Omega.{arith}
 use lib.ListN.{length}
-use Rattle.rules.specs.BoundLaws.{past-32}
+use Rattle.bound.specs.BoundLaws.{past-32}
 use borrow.Author.Needs.{needs}
-use Rattle.rules.proofs.bound.Bound.has.Statement.{statement}
-use Rattle.rules.proofs.bound.Bound.has.Tie as tie
+use Rattle.bound.proofs.Bound.has.Statement.{statement}
+use Rattle.bound.proofs.Bound.has.Tie as tie
 
 size-requires : tie.Need-size-requires
 size-requires c κs = search needs
