@@ -31,6 +31,12 @@ answers log t key k v = leb (v + 1 + k) (length log) && eqb (getD log v 0) t && 
 unfoldable pub slotOf : List ℕ → List ℕ → ℕ → List ℕ → ℕ → Slot
 slotOf ix log t key k = probed ix (answers log t key k) 8192 (homeOf t (front key k))
 
+-- a place that was hit is one less than a slot's word
+abbrev pub Small : Slot → Type 0
+Small (Hit p) = p < 4294967295
+Small (Free s) = Unit {0}
+Small Full = Unit {0}
+
 -- v stands j slots after h, and no slot before it is free
 pub record Chain (ix : List ℕ) (h v j : ℕ) : Type 0 where
   pub short : j < 8192

@@ -5,7 +5,7 @@ ghost use Prim.Native.Nat.{_+_, _≤_, _<_};
 ghost use lib.ListN.{length, set};
 ghost use Rattle.tables.specs.Tables.{front};
 ghost use Rattle.predicted.specs.Home.{spun, mixed, homeOf};
-ghost use Rattle.predicted.specs.Index.{after, answers, probed, slotOf};
+ghost use Rattle.predicted.specs.Index.{after, answers, probed, slotOf, Small};
 
 // The place of the record that has the key; or the free slot where it belongs; or neither, after all slots.
 pub enum Slot {
@@ -72,7 +72,8 @@ fn probe(
     home: usize,
 ) -> Slot
     requires { ⌜ (length (now index) ≡ 8192) × (home < 8192) × (k ≤ 16) ⌝ }
-    ensures { λ r. ⌜ r ≡ probed (now (index .entry)) (answers (now (log .entry)) (table .0) (now (key .entry)) k) 8192 home ⌝ }
+    ensures is { λ r. ⌜ r ≡ probed (now (index .entry)) (answers (now (log .entry)) (table .0) (now (key .entry)) k) 8192 home ⌝ }
+    ensures small { λ r. ⌜ Small r ⌝ }
 {
     let mut s = home;
     let mut j: usize = 0;
@@ -93,7 +94,8 @@ fn probe(
 // Where the predicted row of a key of k words stands in the log, or would stand in the index.
 pub fn get(index: &[u32], log: &[u32], table: ids::TableId, key: &[u32; 16], k: usize) -> Slot
     requires { ⌜ (length (now index) ≡ 8192) × (k ≤ 16) ⌝ }
-    ensures { λ r. ⌜ r ≡ slotOf (now (index .entry)) (now (log .entry)) (table .0) (now (key .entry)) k ⌝ }
+    ensures is { λ r. ⌜ r ≡ slotOf (now (index .entry)) (now (log .entry)) (table .0) (now (key .entry)) k ⌝ }
+    ensures small { λ r. ⌜ Small r ⌝ }
 {
     let home = home_of(table, key, k);
     probe(index, log, table, key, k, home)

@@ -22,14 +22,14 @@ module _ (w : List ℕ) (h : Readable w) (at : ℕ) where
   pub batch-test : getD w at 0 < ruleCount w
       → stepFits (tables w) (rules w) (readBatch w at) ≡ (eqb (getD w (at + 2) 0) (getD w (ruleFirst w (getD w at 0)) 0) && (ltb 0 (getD w (at + 2) 0) || eqb (getD w (at + 1) 0) 0))
   unfolding readBatch readRule
-  batch-test l = rw (length-tab (λ c. part w (at + 3 + c * getD w (at + 1) 0) (getD w (at + 1) 0)) (getD w (at + 2) 0), rule-is w h (getD w at 0) l)
+  batch-test l = rw (length-tab (λ c. part w (at + 3 + c * getD w (at + 1) 0) (getD w (at + 1) 0)) (getD w (at + 2) 0), rule-is w (getD w at 0) l)
 
   pub prediction-test : getD w at 0 < tableCount w → at + 2 + getD w (at + 1) 0 ≤ length w
       → stepFits (tables w) (rules w) (readPrediction w at) ≡ (eqb (getD w (at + 1) 0) (keysOf w (getD w at 0)) && eqb (getD w (at + 1) 0 + getD w (at + 2 + getD w (at + 1) 0) 0) (widthOf w (getD w at 0)))
   unfolding readPrediction
   prediction-test l m =
       let q = at + 2 + getD w (at + 1) 0 in
-      rw (length-part w (at + 2) (getD w (at + 1) 0) m, length-tab (λ k. writeAt w (q + 1 + 2 * k)) (getD w q 0), table-width w h (getD w at 0) l, table-keys w h (getD w at 0) l)
+      rw (length-part w (at + 2) (getD w (at + 1) 0) m, length-tab (λ k. writeAt w (q + 1 + 2 * k)) (getD w q 0), table-width w (getD w at 0) l, table-keys w (getD w at 0) l)
 
 -- step k, whose entry is e and whose body begins at `at`
 module _ (w : List ℕ) (h : Readable w) (k e at : ℕ) (l : k < stepCount w) (is : e ≡ firstStep w + k) (begins : at ≡ firstOf w e) where

@@ -52,8 +52,9 @@ module _ (w : List ℕ) (h : Readable w) where
   pub step-entry : (k : ℕ) → k < stepCount w → firstStep w + k < 128
   step-entry k l = omega (arith, is-step w (contents-ok w (h .contents)) k l .0, few-entries)
 
-  -- ## What a number names
+-- ## What a number names
 
+module _ (w : List ℕ) where
   pub table-is : (t : ℕ) → t < tableCount w → tableAt (tables w) t ≡ readTable w (firstOf w t)
   unfolding tables
   table-is t l = getD-tab (λ t. readTable w (firstOf w t)) (tableCount w) t _ l

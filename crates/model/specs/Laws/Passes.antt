@@ -41,6 +41,18 @@ pub record Passed (s s′ : State) (live : List Bool) (out : List (Option ℕ)) 
   pub answers : s′ .answers ≡ s .answers
   pub status : s′ .status ≡ s .status
 
+pub passed-on : (s s′ s″ : State) (live live′ : List Bool) (out out′ : List (Option ℕ)) → Passed s s′ live out → Passed s′ s″ live′ out′ → Passed s s″ live′ out′
+passed-on s s′ s″ live live′ out out′ p q = record {
+  bindings = q .bindings ∙ p .bindings;
+  live-is = q .live-is;
+  out-is = q .out-is;
+  log = q .log ∙ p .log;
+  counters = q .counters ∙ p .counters;
+  changed = q .changed ∙ p .changed;
+  answers = q .answers ∙ p .answers;
+  status = q .status ∙ p .status;
+}
+
 -- what a lane's turn does, unless the machine is stuck there
 abbrev pub Does : Effect → ℕ → State → State → Type 0
 Does e i s s′ = (s′ .status ≡ stuck) ⊎ Passed s s′ (liveBy e i (s .live)) (outBy e i (s .out))
@@ -160,9 +172,8 @@ module _ (has : State → ℕ → Bool) (todo : Bool → Option ℕ → Bool) (q
 
   took : (i : ℕ) (s s′ : State) → i < length (s₀ .live) → due i ≡ true → Mid i s → Passed s s′ (liveBy (e i) i (s .live)) (outBy (e i) i (s .out)) → Mid (suc i) s′
   took i s s′ h z m p =
-      let a = m .passed in
       record {
-        passed = record { bindings = p .bindings ∙ a .bindings; live-is = refl; out-is = refl; log = p .log ∙ a .log; counters = p .counters ∙ a .counters; changed = p .changed ∙ a .changed; answers = p .answers ∙ a .answers; status = p .status ∙ a .status };
+        passed = passed-on s₀ s s′ (s .live) (s′ .live) (s .out) (s′ .out) (m .passed) (record { bindings = p .bindings; live-is = refl; out-is = refl; log = p .log; counters = p .counters; changed = p .changed; answers = p .answers; status = p .status });
         live-size = ap length (p .live-is) ∙ length-live (e i) i (s .live) ∙ m .live-size;
         out-size = ap length (p .out-is) ∙ length-out (e i) i (s .out) ∙ m .out-size;
         live = λ j. ap (λ (l : List Bool). getD l j false) (p .live-is) ∙ either (live-now j) (λ n. live-other (e i) i j (s .live) n ∙ m .live j ∙ ap (λ (t : Bool). liveAfter t (e j) (getD (s₀ .live) j false)) (sym (turned-later i j n))) (eq-or-not i j);
@@ -199,3 +210,9 @@ module _ (has : State → ℕ → Bool) (todo : Bool → Option ℕ → Bool) (q
 
   pub whole : (pass (length (s₀ .live)) .status ≡ stuck) ⊎ Whole todo e s₀ (pass (length (s₀ .live)))
   whole = either inl (λ m. inr (record { passed = m .passed; live-size = m .live-size; out-size = m .out-size; live = λ j. m .live j ∙ rw (all-turned j); out = λ j. m .out j ∙ rw (all-turned j) })) (mid (length (s₀ .live)) (omega arith))
+
+-- ## A machine that is stuck stays so
+
+pub stuck-stays : (has : State → ℕ → Bool) (todo : Bool → Option ℕ → Bool) → Turns has todo → (f : ℕ → State → State) (n : ℕ) (s : State) → s .status ≡ stuck → iter (λ i s′. when (has s′ i) (f i) s′) n s ≡ s
+stuck-stays has todo q f zero s e = refl
+stuck-stays has todo q f (suc n) s e = rw (stuck-stays has todo q f n s e, q .off s n e)

@@ -12,7 +12,7 @@ probe-requires c κs = search needs
 
 returns : tie.Need-returns
 unfolding slotOf
-returns c = c .probe .ensures ∙ rw (c .before .home-of .ensures .0)
+returns c = (c .probe .ensures .0 ∙ rw (c .before .home-of .ensures .0), c .probe .ensures .1)
 
 pub get-spec : {M : Type 1} → statement M
 get-spec = tie.close (tie.spec home-of-requires probe-requires returns)

@@ -31,7 +31,7 @@ returns : tie.Need-returns Inv-loop μ-loop
 returns c =
     let l = c .before .before .before .loop in
     let a = c .before .before .before .before .before .before .args in
-    sym (l .inv .2 ∙ probe-free (now (a .index)) (answers (now (a .log)) (a .table .0) (now (a .key)) (a .k)) 8192 (l .j) (l .s) (c .before .before .loop-test .taken) (c .if1 .taken))
+    (sym (l .inv .2 ∙ probe-free (now (a .index)) (answers (now (a .log)) (a .table .0) (now (a .key)) (a .k)) 8192 (l .j) (l .s) (c .before .before .loop-test .taken) (c .if1 .taken)), tt)
 
 stands-requires : tie.Need-stands-requires Inv-loop μ-loop
 stands-requires c κs = omega (arith, c .before .shared-slice-known3 .given (c .before .before .before .loop .s), c .before .before .before .before .before .before .pre)
@@ -43,7 +43,7 @@ returns-2 : tie.Need-returns-2 Inv-loop μ-loop
 returns-2 c =
     let l = c .before .before .before .before .before .loop in
     let a = c .before .before .before .before .before .before .before .before .args in
-    sym (l .inv .2 ∙ probe-hit (now (a .index)) (answers (now (a .log)) (a .table .0) (now (a .key)) (a .k)) 8192 (l .j) (l .s) (c .before .before .before .before .loop-test .taken) (c .before .before .if1 .left) (sym (c .before .stands .ensures) ∙ c .if2 .taken))
+    (sym (l .inv .2 ∙ probe-hit (now (a .index)) (answers (now (a .log)) (a .table .0) (now (a .key)) (a .k)) 8192 (l .j) (l .s) (c .before .before .before .before .loop-test .taken) (c .before .before .if1 .left) (sym (c .before .stands .ensures) ∙ c .if2 .taken)), omega (arith, c .before .before .before .shared-slice-known3 .given (l .s)))
 
 next-requires : tie.Need-next-requires Inv-loop μ-loop
 next-requires c κs = search needs
@@ -64,7 +64,7 @@ returns-3 : tie.Need-returns-3 Inv-loop μ-loop
 returns-3 c =
     let l = c .before .loop in
     let a = c .before .before .before .before .args in
-    sym (l .inv .2 ∙ probe-none (now (a .index)) (answers (now (a .log)) (a .table .0) (now (a .key)) (a .k)) 8192 (l .j) (l .s) (omega arith))
+    (sym (l .inv .2 ∙ probe-none (now (a .index)) (answers (now (a .log)) (a .table .0) (now (a .key)) (a .k)) 8192 (l .j) (l .s) (omega arith)), tt)
 
 pub probe-spec : {M : Type 1} → statement M
 probe-spec =

@@ -90,7 +90,7 @@ returns c =
     let e = c .before .before .before .before .i .given in
     let w = now (a .words) in
     let s = rw (e .1) at (q .1) in
-    rw (e .1, c .before .before .column-fits .ensures, c .currents-fit .ensures, c .before .keys-of .ensures .0, table-width w (q .0) (e .0 .0 .0) (s .0), table-keys w (q .0) (e .0 .0 .0) (s .0))
+    rw (e .1, c .before .before .column-fits .ensures, c .currents-fit .ensures, c .before .keys-of .ensures .0, table-width w (e .0 .0 .0) (s .0), table-keys w (e .0 .0 .0) (s .0))
 
 returns-2 : tie.Need-returns-2
 unfolding instrOf columnsOf
@@ -98,7 +98,7 @@ returns-2 c =
     let q = c .before .before .before .before .before .pre in
     let e = c .before .before .i2 .given in
     let s = rw (e .1) at (q .1) in
-    rw (e .1, c .column-fits2 .ensures, table-width (now (c .before .before .before .before .before .args .words)) (q .0) (e .0 .0 .0) (s .0), and-true)
+    rw (e .1, c .column-fits2 .ensures, table-width (now (c .before .before .before .before .before .args .words)) (e .0 .0 .0) (s .0), and-true)
 
 returns-3 : tie.Need-returns-3
 unfolding instrOf columnsOf
@@ -106,7 +106,7 @@ returns-3 c =
     let q = c .before .before .before .before .before .pre in
     let e = c .before .before .i3 .given in
     let s = rw (e .1) at (q .1) in
-    rw (e .1, c .column-fits3 .ensures, table-width (now (c .before .before .before .before .before .args .words)) (q .0) (e .0 .0 .0) (s .0), and-true)
+    rw (e .1, c .column-fits3 .ensures, table-width (now (c .before .before .before .before .before .args .words)) (e .0 .0 .0) (s .0), and-true)
 
 returns-4 : tie.Need-returns-4
 unfolding instrOf columnsOf
@@ -114,7 +114,7 @@ returns-4 c =
     let q = c .before .before .before .before .before .pre in
     let e = c .before .before .i4 .given in
     let s = rw (e .1) at (q .1) in
-    rw (e .1, c .column-fits4 .ensures, table-width (now (c .before .before .before .before .before .args .words)) (q .0) (e .0 .0 .0) (s .0), and-true)
+    rw (e .1, c .column-fits4 .ensures, table-width (now (c .before .before .before .before .before .args .words)) (e .0 .0 .0) (s .0), and-true)
 
 returns-5 : tie.Need-returns-5
 unfolding instrOf columnsOf

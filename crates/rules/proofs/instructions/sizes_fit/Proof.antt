@@ -116,7 +116,7 @@ returns c =
     let e = c .before .before .before .i .given in
     let w = now (a .words) in
     let s = rw (e .1) at (q .1) in
-    rw (e .1, c .before .keys-fit .ensures, c .row-fits .ensures, table-width w (q .0) (e .0 .0 .0) (s .0), table-keys w (q .0) (e .0 .0 .0) (s .0), count-entries w (e .0 .1 .0), count-writes w (e .0 .1 .1 .0), and-true)
+    rw (e .1, c .before .keys-fit .ensures, c .row-fits .ensures, table-width w (e .0 .0 .0) (s .0), table-keys w (e .0 .0 .0) (s .0), count-entries w (e .0 .1 .0), count-writes w (e .0 .1 .1 .0), and-true)
 
 returns-2 : tie.Need-returns-2
 unfolding instrOf sizesOf
@@ -126,7 +126,7 @@ returns-2 c =
     let e = c .before .before .i2 .given in
     let w = now (a .words) in
     let s = rw (e .1) at (q .1) in
-    rw (e .1, c .keys-fit2 .ensures, table-keys w (q .0) (e .0 .0 .0) (s .0), count-entries w (e .0 .1 .0), and-true)
+    rw (e .1, c .keys-fit2 .ensures, table-keys w (e .0 .0 .0) (s .0), count-entries w (e .0 .1 .0), and-true)
 
 returns-3 : tie.Need-returns-3
 unfolding instrOf sizesOf
@@ -136,7 +136,7 @@ returns-3 c =
     let e = c .before .before .i3 .given in
     let w = now (a .words) in
     let s = rw (e .1) at (q .1) in
-    rw (e .1, c .keys-fit3 .ensures, table-keys w (q .0) (e .0 .0 .0) (s .0), count-entries w (e .0 .1 .0), and-true)
+    rw (e .1, c .keys-fit3 .ensures, table-keys w (e .0 .0 .0) (s .0), count-entries w (e .0 .1 .0), and-true)
 
 returns-4 : tie.Need-returns-4
 unfolding instrOf sizesOf
@@ -146,7 +146,7 @@ returns-4 c =
     let e = c .before .before .before .i4 .given in
     let w = now (a .words) in
     let s = rw (e .1) at (q .1) in
-    rw (e .1, c .before .keys-fit4 .ensures, c .takes .ensures, table-keys w (q .0) (e .0 .0 .0) (s .0), count-entries w (e .0 .1 .0), count-entries w (e .0 .1 .1 .1 .0), and-true)
+    rw (e .1, c .before .keys-fit4 .ensures, c .takes .ensures, table-keys w (e .0 .0 .0) (s .0), count-entries w (e .0 .1 .0), count-entries w (e .0 .1 .1 .1 .0), and-true)
 
 returns-5 : tie.Need-returns-5
 unfolding instrOf sizesOf
@@ -156,7 +156,7 @@ returns-5 c =
     let e = c .before .before .i5 .given in
     let w = now (a .words) in
     let s = rw (e .1) at (q .1) in
-    rw (e .1, c .width-fits .ensures, table-width w (q .0) (e .0 .0 .0) (s .0), count-entries w (e .0 .1 .0), and-true)
+    rw (e .1, c .width-fits .ensures, table-width w (e .0 .0 .0) (s .0), count-entries w (e .0 .1 .0), and-true)
 
 returns-6 : tie.Need-returns-6
 unfolding instrOf sizesOf
@@ -166,7 +166,7 @@ returns-6 c =
     let e = c .before .before .i6 .given in
     let w = now (a .words) in
     let s = rw (e .1) at (q .1) in
-    rw (e .1, c .width-fits2 .ensures, table-width w (q .0) (e .0 .0 .0) (s .0), count-entries w (e .0 .1 .1 .1 .0), and-true)
+    rw (e .1, c .width-fits2 .ensures, table-width w (e .0 .0 .0) (s .0), count-entries w (e .0 .1 .1 .1 .0), and-true)
 
 returns-7 : tie.Need-returns-7
 unfolding instrOf sizesOf
@@ -176,7 +176,7 @@ returns-7 c =
     let e = c .before .before .i7 .given in
     let w = now (a .words) in
     let s = rw (e .1) at (q .1) in
-    rw (e .1, c .keys-fit5 .ensures, table-keys w (q .0) (e .0 .0 .0) (s .0), count-entries w (e .0 .1 .0), and-true)
+    rw (e .1, c .keys-fit5 .ensures, table-keys w (e .0 .0 .0) (s .0), count-entries w (e .0 .1 .0), and-true)
 
 returns-8 : tie.Need-returns-8
 unfolding instrOf sizesOf

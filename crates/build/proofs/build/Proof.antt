@@ -1,0 +1,64 @@
+use Prim.Native.Nat.{_+_, _*_, _-_, _≤_}
+use mathlib.Core.Path.{_≡_, refl}
+use native.Mathlib.Omega.{arith}
+use denote.Ref.{now}
+use Rattle.model.specs.Basics.{iter}
+use Rattle.model.specs.Laws.Iter.{iter-more}
+use Rattle.build.specs.Build.{writtenNext, built}
+use Rattle.build.specs.BuildLaws.{built-fits}
+use borrow.Author.Needs.{needs}
+use Rattle.build.proofs.build.Statement.{statement}
+use Rattle.build.proofs.build.Tie as tie
+
+abbrev Inv-loop : tie.InvT-loop
+Inv-loop words bindings lane at count b₀ k₀ b k = (k ≤ count) × (b ≡ iter (λ j. writtenNext words bindings (lane .0) (at + 2 * j)) k b₀)
+
+abbrev μ-loop : tie.MeasureT-loop
+μ-loop words bindings lane at count b₀ k₀ b k = count - k
+
+loop-holds : tie.Need-loop-holds Inv-loop μ-loop
+loop-holds c = (search needs, refl)
+
+mul-write-next : tie.Need-mul-write-next Inv-loop μ-loop
+mul-write-next c = search needs
+
+add-write-next : tie.Need-add-write-next Inv-loop μ-loop
+add-write-next c = search needs
+
+write-next-requires : tie.Need-write-next-requires Inv-loop μ-loop
+write-next-requires c κs = search needs
+
+add-k : tie.Need-add-k Inv-loop μ-loop
+add-k c = search needs
+
+loop-less : tie.Need-loop-less Inv-loop μ-loop
+loop-less c = search needs
+
+loop-again : tie.Need-loop-again Inv-loop μ-loop
+loop-again c =
+    let l = c .before .before .loop in
+    (search needs, iter-more _ (l .k) _ _ _ (l .inv .1) (c .write-next .ensures))
+
+returns : tie.Need-returns Inv-loop μ-loop
+unfolding built
+returns c =
+    let a = c .before .before .before .before .args in
+    let l = c .before .loop in
+    let e : l .k ≡ a .vals .count = omega arith in
+    let is : l .b ≡ built (now (a .words)) (now (a .bindings)) (a .lane .0) (a .key) (a .vals .at) (a .vals .count) (a .counters) = rw e at (l .inv .1) in
+    (is, rw is (built-fits (now (a .bindings)) (a .lane .0) (now (a .words)) (a .key) (a .vals .at) (a .vals .count) (a .counters) (c .before .before .before .before .pre .1)))
+
+pub build-spec : {M : Type 1} → statement M
+build-spec =
+    tie.close
+    (tie.spec
+    Inv-loop
+    μ-loop
+    loop-holds
+    mul-write-next
+    add-write-next
+    write-next-requires
+    add-k
+    loop-less
+    loop-again
+    returns)

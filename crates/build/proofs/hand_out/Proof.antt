@@ -1,0 +1,39 @@
+use Prim.Native.Nat.{ℕ}
+use mathlib.Core.List.{List}
+use mathlib.Core.Path.{sym, ap, _∙_}
+use Rattle.counter.specs.Counter.{drawnOf}
+use Rattle.build.specs.Build.{appended, handed}
+use borrow.Author.Needs.{needs}
+use Rattle.build.proofs.hand_out.Statement.{statement}
+use Rattle.build.proofs.hand_out.Tie as tie
+
+inc-requires : tie.Need-inc-requires
+inc-requires c κs = search needs
+
+enum-known-drawn : tie.Need-enum-known-drawn
+enum-known-drawn c = search needs
+
+append-requires : tie.Need-append-requires
+append-requires c κs = search needs
+
+enum-told : tie.Need-enum-told
+enum-told c = search needs
+
+returns : tie.Need-returns
+unfolding handed
+returns c =
+    let h = c .before .before .before .before .inc .ensures in
+    let x = c .before .before .drawn .given in
+    let d = sym (ap drawnOf (x .1)) ∙ h .drawn in
+    c .append .ensures ∙ rw (← d) (ap (λ (l : List ℕ). appended (x .0 .0) (record { next = l }) (c .before .before .before .before .before .before .args .b)) (rw (← d) at (h .counters)))
+
+returns-2 : tie.Need-returns-2
+unfolding handed
+returns-2 c =
+    let h = c .before .before .inc .ensures in
+    let d = sym (ap drawnOf (c .enum-told .given .1)) ∙ h .drawn in
+    rw (← d)
+
+pub hand-out-spec : {M : Type 1} → statement M
+hand-out-spec =
+    tie.close (tie.spec inc-requires enum-known-drawn append-requires enum-told returns returns-2)

@@ -1,0 +1,68 @@
+use Prim.Native.Nat.{_-_, _≤_}
+use mathlib.Core.Path.{_≡_, refl, _∙_}
+use mathlib.Core.Bool.{false}
+use native.Mathlib.Omega.{arith}
+use lib.ListN.{length, getD}
+use Rattle.model.specs.Basics.{iter}
+use Rattle.model.specs.Laws.Iter.{iter-more}
+use Rattle.lanes.specs.Lanes.{listed}
+use Rattle.execution.specs.Execution.{Logged, stagedLane, stagedLanes}
+use borrow.Author.Needs.{needs}
+use Rattle.execution.proofs.stage_lanes.Statement.{statement}
+use Rattle.execution.proofs.stage_lanes.Tie as tie
+
+abbrev Inv-loop : tie.InvT-loop
+Inv-loop words bindings what log₀ mask s₀ i₀ log s i =
+    (i ≤ 256)
+    × (length log ≡ length log₀)
+    × (s .used ≤ length log₀)
+    × (_≡_ {A = Logged} (record { state = s; log = log }) (iter (λ k. stagedLane (what .kind) (what .table .0) (listed words bindings k (what .vals)) (getD (mask .live) k false)) i (record { state = s₀; log = log₀ })))
+
+abbrev μ-loop : tie.MeasureT-loop
+μ-loop words bindings what log₀ mask s₀ i₀ log s i = 256 - i
+
+loop-holds : tie.Need-loop-holds Inv-loop μ-loop
+loop-holds c = (search needs, refl, search needs, refl)
+
+element-copy-out-stage-lane : tie.Need-element-copy-out-stage-lane Inv-loop μ-loop
+element-copy-out-stage-lane c = search needs
+
+stage-lane-requires : tie.Need-stage-lane-requires Inv-loop μ-loop
+stage-lane-requires c κs = search needs
+
+add-i : tie.Need-add-i Inv-loop μ-loop
+add-i c = search needs
+
+loop-less : tie.Need-loop-less Inv-loop μ-loop
+loop-less c = search needs
+
+loop-again : tie.Need-loop-again Inv-loop μ-loop
+loop-again c =
+    let l = c .before .before .before .before .before .before .loop in
+    let r = c .before .before .stage-lane in
+    (search needs, r .kept .1 .1 .1 .1 .1 .1 .0 ∙ l .inv .1, omega (arith, r .ensures .1, l .inv .1), iter-more _ (l .i) _ _ _ (l .inv .3) (r .ensures .0))
+
+same-length : tie.Need-same-length Inv-loop μ-loop
+same-length c = search needs
+
+returns : tie.Need-returns Inv-loop μ-loop
+unfolding stagedLanes
+returns c =
+    let l = c .before .loop in
+    let e : l .i ≡ 256 = omega arith in
+    (rw e at (l .inv .3), l .inv .2)
+
+pub stage-lanes-spec : {M : Type 1} → statement M
+stage-lanes-spec =
+    tie.close
+    (tie.spec
+    Inv-loop
+    μ-loop
+    loop-holds
+    element-copy-out-stage-lane
+    stage-lane-requires
+    add-i
+    loop-less
+    loop-again
+    same-length
+    returns)

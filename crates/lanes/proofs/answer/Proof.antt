@@ -1,0 +1,61 @@
+use Rattle.lanes.specs.LaneLaws.{begins}
+use Rattle.lanes.specs.Lanes.{asked}
+use borrow.Author.Needs.{needs}
+use Rattle.lanes.proofs.answer.Statement.{statement}
+use Rattle.lanes.proofs.answer.Tie as tie
+
+enum-known-ask : tie.Need-enum-known-ask
+enum-known-ask c = search needs
+
+fetch-requires : tie.Need-fetch-requires
+fetch-requires c κs = (rw (c .before .ask .given .1) at (c .before .before .before .before .before .pre)) .1
+
+find-requires : tie.Need-find-requires
+find-requires c κs = (rw (c .before .before .before .before .ask .given .1) at (c .before .before .before .before .before .before .before .before .pre)) .0
+
+column-requires : tie.Need-column-requires
+column-requires c κs = begins _ _ _ _ ((rw (c .before .before .before .before .before .ask .given .1) at (c .before .before .before .before .before .before .before .before .before .pre)) .0) (c .find .ensures)
+
+enum-known-ask-2 : tie.Need-enum-known-ask-2
+enum-known-ask-2 c = search needs
+
+fetch-requires-2 : tie.Need-fetch-requires-2
+fetch-requires-2 c κs = rw (c .before .ask2 .given .1) at (c .before .before .before .before .before .pre)
+
+invoke-requires : tie.Need-invoke-requires
+invoke-requires c κs = search needs
+
+enum-known-ask-3 : tie.Need-enum-known-ask-3
+enum-known-ask-3 c = search needs
+
+value-requires : tie.Need-value-requires
+value-requires c κs = search needs
+
+returns : tie.Need-returns
+unfolding asked
+returns c = rw (c .before .before .before .before .before .before .ask .given .1, ← c .before .before .before .before .fetch .ensures, ← c .before .find .ensures) (c .column .ensures)
+
+returns-2 : tie.Need-returns-2
+unfolding asked
+returns-2 c = rw (c .before .before .before .ask2 .given .1, ← c .before .fetch2 .ensures) (c .invoke .ensures)
+
+returns-3 : tie.Need-returns-3
+unfolding asked
+returns-3 c = rw (c .before .before .ask3 .given .1, ← c .value .ensures)
+
+pub answer-spec : {M : Type 1} → statement M
+answer-spec =
+    tie.close
+    (tie.spec
+    enum-known-ask
+    fetch-requires
+    find-requires
+    column-requires
+    enum-known-ask-2
+    fetch-requires-2
+    invoke-requires
+    enum-known-ask-3
+    value-requires
+    returns
+    returns-2
+    returns-3)

@@ -1,0 +1,94 @@
+use native.Mathlib.Omega.{arith}
+use Rattle.lanes.specs.LaneLaws.{pair-differs, pair-agrees, no-more-pairs}
+use Prim.Native.Nat.{_-_, _≤_, min}
+use mathlib.Core.Path.{_≡_, refl, _∙_, sym}
+use lib.ListN.{take, drop, length}
+use Rattle.model.specs.Machine.Steps.{anyNe}
+use Rattle.args.specs.Args.{asList}
+use borrow.Author.Needs.{needs}
+use Rattle.lanes.proofs.any_ne.Statement.{statement}
+use Rattle.lanes.proofs.any_ne.Tie as tie
+
+abbrev Inv-loop : tie.InvT-loop
+Inv-loop divider ops count left pairs k₀ k = (k ≤ pairs) × (anyNe (take divider (asList ops)) (drop divider (asList ops)) ≡ anyNe (drop k (take divider (asList ops))) (drop k (drop divider (asList ops))))
+
+abbrev μ-loop : tie.MeasureT-loop
+μ-loop divider ops count left pairs k₀ k = pairs - k
+
+least-requires : tie.Need-least-requires Inv-loop μ-loop
+least-requires c κs = search needs
+
+sub-least : tie.Need-sub-least Inv-loop μ-loop
+sub-least c = search needs
+
+least-requires-2 : tie.Need-least-requires-2 Inv-loop μ-loop
+least-requires-2 c κs = search needs
+
+loop-holds : tie.Need-loop-holds Inv-loop μ-loop
+loop-holds c = (search needs, refl)
+
+mul-if1 : tie.Need-mul-if1 Inv-loop μ-loop
+mul-if1 c = search needs
+
+element-copy-out-if1 : tie.Need-element-copy-out-if1 Inv-loop μ-loop
+element-copy-out-if1 c = search needs
+
+add-if1 : tie.Need-add-if1 Inv-loop μ-loop
+add-if1 c = search needs
+
+mul-if1-2 : tie.Need-mul-if1-2 Inv-loop μ-loop
+mul-if1-2 c = search needs
+
+element-copy-out-if1-2 : tie.Need-element-copy-out-if1-2 Inv-loop μ-loop
+element-copy-out-if1-2 c = search needs
+
+returns : tie.Need-returns Inv-loop μ-loop
+returns c =
+    let l = c .before .before .before .before .loop in
+    let a = c .before .before .before .before .before .before .before .args in
+    let n : length (a .t1 .vals) ≡ 16 = search needs in
+    let d : c .before .before .before .before .before .before .least .result ≡ min (a .divider) (a .t1 .count) = c .before .before .before .before .before .before .least .ensures in
+    pair-differs (a .t1 .vals) (a .divider) (a .t1 .count) (omega (arith, c .before .before .before .before .before .before .before .pre)) (l .k) (omega (arith, d, c .before .before .before .before .before .least2 .ensures)) (rw d at (c .if1 .taken)) ∙ sym (l .inv .1)
+
+add-k : tie.Need-add-k Inv-loop μ-loop
+add-k c = search needs
+
+loop-less : tie.Need-loop-less Inv-loop μ-loop
+loop-less c = search needs
+
+loop-again : tie.Need-loop-again Inv-loop μ-loop
+loop-again c =
+    let l = c .before .before .before .before .loop in
+    let a = c .before .before .before .before .before .before .before .args in
+    let n : length (a .t1 .vals) ≡ 16 = search needs in
+    let d : c .before .before .before .before .before .before .least .result ≡ min (a .divider) (a .t1 .count) = c .before .before .before .before .before .before .least .ensures in
+    (search needs, l .inv .1 ∙ pair-agrees (a .t1 .vals) (a .divider) (a .t1 .count) (omega (arith, c .before .before .before .before .before .before .before .pre)) (l .k) (omega (arith, d, c .before .before .before .before .before .least2 .ensures)) (rw d at (c .if1 .left)))
+
+returns-2 : tie.Need-returns-2 Inv-loop μ-loop
+returns-2 c =
+    let l = c .before .loop in
+    let a = c .before .before .before .before .args in
+    let n : length (a .t1 .vals) ≡ 16 = search needs in
+    let d : c .before .before .before .least .result ≡ min (a .divider) (a .t1 .count) = c .before .before .before .least .ensures in
+    no-more-pairs (a .t1 .vals) (a .divider) (a .t1 .count) (omega (arith, c .before .before .before .before .pre)) (l .k) (omega (arith, d, c .before .before .least2 .ensures)) ∙ sym (l .inv .1)
+
+pub any-ne-spec : {M : Type 1} → statement M
+any-ne-spec =
+    tie.close
+    (tie.spec
+    Inv-loop
+    μ-loop
+    least-requires
+    sub-least
+    least-requires-2
+    loop-holds
+    mul-if1
+    element-copy-out-if1
+    add-if1
+    mul-if1-2
+    element-copy-out-if1-2
+    returns
+    add-k
+    loop-less
+    loop-again
+    returns-2)

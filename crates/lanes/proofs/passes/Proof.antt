@@ -1,0 +1,62 @@
+use Rattle.bindings.specs.Columns.{fetched}
+use Rattle.lanes.specs.Lanes.{holds}
+use borrow.Author.Needs.{needs}
+use Rattle.lanes.proofs.passes.Statement.{statement}
+use Rattle.lanes.proofs.passes.Tie as tie
+
+enum-known-test : tie.Need-enum-known-test
+enum-known-test c = search needs
+
+value-requires : tie.Need-value-requires
+value-requires c κs = search needs
+
+value-requires-2 : tie.Need-value-requires-2
+value-requires-2 c κs = search needs
+
+enum-known-test-2 : tie.Need-enum-known-test-2
+enum-known-test-2 c = search needs
+
+value-requires-3 : tie.Need-value-requires-3
+value-requires-3 c κs = search needs
+
+value-requires-4 : tie.Need-value-requires-4
+value-requires-4 c κs = search needs
+
+enum-known-test-3 : tie.Need-enum-known-test-3
+enum-known-test-3 c = search needs
+
+fetch-requires : tie.Need-fetch-requires
+fetch-requires c κs = rw (c .before .test3 .given .1) at (c .before .before .before .before .before .pre)
+
+any-ne-requires : tie.Need-any-ne-requires
+unfolding fetched
+any-ne-requires c κs = rw (c .fetch .ensures) ((rw (c .before .before .test3 .given .1) at (c .before .before .before .before .before .before .pre)) .1)
+
+returns : tie.Need-returns
+unfolding holds
+returns c = rw (c .before .before .before .test .given .1, ← c .before .value .ensures, ← c .value2 .ensures)
+
+returns-2 : tie.Need-returns-2
+unfolding holds
+returns-2 c = rw (c .before .before .before .test2 .given .1, ← c .before .value3 .ensures, ← c .value4 .ensures)
+
+returns-3 : tie.Need-returns-3
+unfolding holds
+returns-3 c = rw (c .before .before .before .test3 .given .1, ← c .before .fetch .ensures) (c .any-ne .ensures)
+
+pub passes-spec : {M : Type 1} → statement M
+passes-spec =
+    tie.close
+    (tie.spec
+    enum-known-test
+    value-requires
+    value-requires-2
+    enum-known-test-2
+    value-requires-3
+    value-requires-4
+    enum-known-test-3
+    fetch-requires
+    any-ne-requires
+    returns
+    returns-2
+    returns-3)

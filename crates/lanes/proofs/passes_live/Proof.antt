@@ -1,0 +1,15 @@
+use borrow.Author.Needs.{needs}
+use Rattle.lanes.proofs.passes_live.Statement.{statement}
+use Rattle.lanes.proofs.passes_live.Tie as tie
+
+passes-requires : tie.Need-passes-requires
+passes-requires c κs = search needs
+
+returns : tie.Need-returns
+returns c = rw (c .before .if1 .taken) (c .passes .ensures)
+
+returns-2 : tie.Need-returns-2
+returns-2 c = rw (c .if1 .left)
+
+pub passes-live-spec : {M : Type 1} → statement M
+passes-live-spec = tie.close (tie.spec passes-requires returns returns-2)

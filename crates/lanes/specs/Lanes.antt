@@ -1,0 +1,79 @@
+-- What each lane is answered, and whether it passes a test: w is the book's words, m the memory of the bindings.
+use Prim.Native.Nat.{ℕ, _+_, _≤_}
+use mathlib.Core.Bool.{Bool, true, false, _&&_, not}
+use mathlib.Core.Option.{Option, none, some}
+use mathlib.Core.List.{List}
+use lib.Dec.{eqb}
+use lib.ListN.{length, getD, take, drop}
+use Rattle.model.specs.Basics.{found, only, tab}
+use Rattle.model.specs.Machine.Functions.{apply}
+use Rattle.model.specs.Machine.Steps.{anyNe}
+use Rattle.args.specs.declared.Args.{Args}
+use Rattle.args.specs.Args.{asList}
+use Rattle.bindings.specs.Columns.{wordOf, fetched}
+use Rattle.instr.specs.declared.Entries.{Entries}
+use Rattle.instr.specs.Meaning.{entryOf}
+use Rattle.instr.specs.Stands.{Short}
+use Rattle.tables.specs.declared.Found.{Found}
+use Rattle.tables.specs.declared.Found.the-variants.{At, Nothing}
+use Rattle.tables.specs.Tables.{Stands, foundRow}
+use Rattle.lanes.specs.declared.Ask.{Ask}
+use Rattle.lanes.specs.declared.Ask.the-variants.{Lookup, External, Entry}
+use Rattle.lanes.specs.declared.Test.{Test}
+use Rattle.lanes.specs.declared.Test.the-variants.{Eq, Ne, AnyNe}
+
+-- a row that was found begins in the words
+abbrev pub Begins : List ℕ → Found → Type 0
+Begins w (At p) = p ≤ length w
+Begins w Nothing = Unit {0}
+
+-- the committed row's column
+abbrev pub columnOf : List ℕ → ℕ → Found → Option ℕ
+columnOf w col (At p) = some (getD w (p + col) 0)
+columnOf w col Nothing = none
+
+module _ (w m : List ℕ) where
+  abbrev pub listed : ℕ → Entries → Args
+  listed i l = fetched w m i (l .at) (l .count)
+
+  -- what lane i is answered
+  unfoldable pub asked : Ask → ℕ → Option ℕ
+  asked (Lookup table key col) i = columnOf w (col .0) (foundRow w table (listed i key .vals))
+  asked (External func args) i = apply (func .0) (asList (listed i args))
+  asked (Entry e) i = some (wordOf m i (entryOf e))
+
+  -- whether lane i passes
+  unfoldable pub holds : Test → ℕ → Bool
+  holds (Eq l r) i = eqb (wordOf m i (entryOf l)) (wordOf m i (entryOf r))
+  holds (Ne l r) i = not (eqb (wordOf m i (entryOf l)) (wordOf m i (entryOf r)))
+  holds (AnyNe ops divider) i = anyNe (take divider (asList (listed i ops))) (drop divider (asList (listed i ops)))
+
+-- what the code may suppose: a table stands in the words, a list is short
+abbrev pub AskFits : List ℕ → Ask → Type 0
+AskFits w (Lookup table key col) = Stands w table × Short key
+AskFits w (External func args) = Short args
+AskFits w (Entry e) = Unit {0}
+
+abbrev pub TestFits : Test → Type 0
+TestFits (Eq l r) = Unit {0}
+TestFits (Ne l r) = Unit {0}
+TestFits (AnyNe ops divider) = Short ops
+
+-- ## All lanes
+
+abbrev pub isSome : Option ℕ → Bool
+isSome o = found o (λ _. true) (λ _. false)
+
+abbrev pub orElse : Option ℕ → ℕ → ℕ
+orElse o x = found o (λ w. w) (λ _. x)
+
+-- the lanes of a mask that are answered, and an array with their words
+unfoldable pub answeredLanes : (ℕ → Option ℕ) → List Bool → List Bool
+answeredLanes ask live = tab (λ i. isSome (only (getD live i false) (ask i))) 256
+
+unfoldable pub answeredWords : (ℕ → Option ℕ) → List Bool → List ℕ → List ℕ
+answeredWords ask live out = tab (λ i. orElse (only (getD live i false) (ask i)) (getD out i 0)) 256
+
+-- the lanes of a mask that pass
+unfoldable pub kept : (ℕ → Bool) → List Bool → List Bool
+kept test live = tab (λ i. getD live i false && test i) 256

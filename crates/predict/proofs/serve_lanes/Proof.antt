@@ -1,0 +1,88 @@
+use Prim.Native.Nat.{_-_, _≤_}
+use mathlib.Core.Path.{_≡_, refl, _∙_}
+use mathlib.Core.Bool.{false}
+use native.Mathlib.Omega.{arith}
+use lib.ListN.{length, getD}
+use Rattle.model.specs.Basics.{iter}
+use Rattle.model.specs.Laws.Iter.{iter-more}
+use Rattle.predict.specs.Predict.{Served, servedLane, servedLanes}
+use borrow.Author.Needs.{needs}
+use Rattle.predict.proofs.serve_lanes.Statement.{statement}
+use Rattle.predict.proofs.serve_lanes.Tie as tie
+
+abbrev Inv-loop : tie.InvT-loop
+Inv-loop words bindings ask log₀ index₀ out₀ mask s₀ i₀ log index out s i =
+    (i ≤ 256)
+    × (length log ≡ length log₀)
+    × (length index ≡ length index₀)
+    × (length out ≡ length out₀)
+    × (s .used ≤ length log₀)
+    × (_≡_ {A = Served} (record { state = s; log = log; index = index; out = out }) (iter (λ k. servedLane words bindings ask (getD (mask .live) k false) k) i (record { state = s₀; log = log₀; index = index₀; out = out₀ })))
+
+abbrev μ-loop : tie.MeasureT-loop
+μ-loop words bindings ask log₀ index₀ out₀ mask s₀ i₀ log index out s i = 256 - i
+
+loop-holds : tie.Need-loop-holds Inv-loop μ-loop
+loop-holds c = (search needs, refl, refl, refl, search needs, refl)
+
+element-copy-out-serve-lane : tie.Need-element-copy-out-serve-lane Inv-loop μ-loop
+element-copy-out-serve-lane c = search needs
+
+serve-lane-requires : tie.Need-serve-lane-requires Inv-loop μ-loop
+serve-lane-requires c κs =
+    let p = c .before .before .before .before .before .before .before .before .before .before .before .pre in
+    let v = c .before .before .before .before .before .loop .inv in
+    let r = p .2 in
+    (p .0, p .1, record { used = omega (arith, v .4, v .1); short = omega (arith, r .short, v .1); slots = v .2 ∙ r .slots }, omega (arith, c .before .before .before .before .loop-test .taken, p .3, v .3))
+
+add-i : tie.Need-add-i Inv-loop μ-loop
+add-i c = search needs
+
+loop-less : tie.Need-loop-less Inv-loop μ-loop
+loop-less c = search needs
+
+loop-again : tie.Need-loop-again Inv-loop μ-loop
+loop-again c =
+    let l = c .before .before .before .before .before .before .before .before .before .before .before .before .loop in
+    let r = c .before .before .before .before .before .before .serve-lane in
+    let k = r .kept .1 .1 .1 .1 .1 .1 in (
+      search needs,
+      k .0 ∙ l .inv .1,
+      k .1 .0 ∙ l .inv .2,
+      k .1 .1 .0 ∙ l .inv .3,
+      omega (arith, r .ensures .1, l .inv .1),
+      iter-more _ (l .i) _ _ _ (l .inv .5) (r .ensures .0),
+    )
+
+same-length : tie.Need-same-length Inv-loop μ-loop
+same-length c = search needs
+
+same-length-2 : tie.Need-same-length-2 Inv-loop μ-loop
+same-length-2 c = search needs
+
+same-length-3 : tie.Need-same-length-3 Inv-loop μ-loop
+same-length-3 c = search needs
+
+returns : tie.Need-returns Inv-loop μ-loop
+unfolding servedLanes
+returns c =
+    let l = c .before .loop in
+    let e : l .i ≡ 256 = omega arith in
+    (rw e at (l .inv .5), l .inv .4)
+
+pub serve-lanes-spec : {M : Type 1} → statement M
+serve-lanes-spec =
+    tie.close
+    (tie.spec
+    Inv-loop
+    μ-loop
+    loop-holds
+    element-copy-out-serve-lane
+    serve-lane-requires
+    add-i
+    loop-less
+    loop-again
+    same-length
+    same-length-2
+    same-length-3
+    returns)
