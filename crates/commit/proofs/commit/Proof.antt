@@ -1,0 +1,73 @@
+use Prim.Native.Nat.{_≤_, _-_}
+use mathlib.Core.Path.{_≡_, refl, ap, _∙_}
+use mathlib.Core.Bool.{false}
+use native.Mathlib.Omega.{arith}
+use denote.Ref.{now}
+use lib.ListN.{length, replicate}
+use Rattle.model.specs.Basics.{iter}
+use Rattle.model.specs.Laws.Iter.{iter-more}
+use Rattle.commit.specs.Commit.{Left, tableCommitted, committedRows}
+use Rattle.commit.specs.TableLaws.{table-fits}
+use borrow.Author.Needs.{needs}
+use Rattle.commit.proofs.commit.Statement.{statement}
+use Rattle.commit.proofs.commit.Tie as tie
+
+abbrev Inv-loop : tie.InvT-loop
+Inv-loop words tables log rows₀ done₀ t₀ rows done t =
+    (t ≤ tables) × (length rows ≡ length rows₀) × (done .used ≤ length rows₀)
+    × (_≡_ {A = Left} (record { words = rows; result = done }) (iter (tableCommitted words log) t (record { words = rows₀; result = record { counts = replicate 16 0; used = 0; over = false } })))
+
+abbrev μ-loop : tie.MeasureT-loop
+μ-loop words tables log rows₀ done₀ t₀ rows done t = tables - t
+
+loop-holds : tie.Need-loop-holds Inv-loop μ-loop
+loop-holds c = (search needs, refl, omega arith, refl)
+
+commit-table-requires : tie.Need-commit-table-requires Inv-loop μ-loop
+commit-table-requires c κs =
+    let l = c .before .before .loop in
+    let pre = c .before .before .before .before .before .before .pre in
+    (omega arith, pre .2 (l .t) (c .before .loop-test .taken), omega (arith, l .inv .1, l .inv .2), omega (arith, pre .1, l .inv .1))
+
+add-t : tie.Need-add-t Inv-loop μ-loop
+add-t c = search needs
+
+loop-less : tie.Need-loop-less Inv-loop μ-loop
+loop-less c = search needs
+
+loop-again : tie.Need-loop-again Inv-loop μ-loop
+loop-again c =
+    let a = c .before .before .before .before .before .before .before .before .before .args in
+    let l = c .before .before .before .before .before .loop in
+    let pre = c .before .before .before .before .before .before .before .before .before .pre in
+    let r = c .before .before .commit-table .ensures in
+    let f = table-fits (now (a .words)) (now (a .log)) (l .t) (record { words = l .rows; result = l .done }) (pre .2 (l .t) (c .before .before .before .before .loop-test .taken)) (omega (arith, l .inv .1, l .inv .2)) in (
+      search needs,
+      ap (λ (x : Left). length (x .words)) r ∙ f .0 ∙ l .inv .1,
+      omega (arith, ap (λ (x : Left). x .result .used) r, f .1, l .inv .1),
+      iter-more (tableCommitted (now (a .words)) (now (a .log))) (l .t) (record { words = now (a .rows); result = record { counts = replicate 16 0; used = 0; over = false } }) (record { words = l .rows; result = l .done }) _ (l .inv .3) r,
+    )
+
+same-length : tie.Need-same-length Inv-loop μ-loop
+same-length c = search needs
+
+returns : tie.Need-returns Inv-loop μ-loop
+unfolding committedRows
+returns c =
+    let l = c .before .loop in
+    let e : l .t ≡ c .before .before .before .before .before .args .tables = omega arith in
+    rw e at (l .inv .3)
+
+pub commit-spec : {M : Type 1} → statement M
+commit-spec =
+    tie.close
+    (tie.spec
+    Inv-loop
+    μ-loop
+    loop-holds
+    commit-table-requires
+    add-t
+    loop-less
+    loop-again
+    same-length
+    returns)

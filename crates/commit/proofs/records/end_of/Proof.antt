@@ -1,0 +1,62 @@
+use Prim.Native.Nat.{_+_}
+use mathlib.Core.Path.{ap}
+use native.Mathlib.Omega.{arith}
+use denote.Ref.{now}
+use Rattle.model.specs.Book.Contents.{firstOf}
+use Rattle.tables.specs.declared.TableInfo.{TableInfo}
+use borrow.Author.Tests.{ne-eqb}
+use Rattle.commit.specs.Walk.{endOf}
+use borrow.Author.Needs.{needs}
+use Rattle.commit.proofs.records.end_of.Statement.{statement}
+use Rattle.commit.proofs.records.end_of.Tie as tie
+
+word-requires : tie.Need-word-requires
+word-requires c κs = search needs
+
+add-word : tie.Need-add-word
+add-word c = search needs
+
+word-requires-2 : tie.Need-word-requires-2
+word-requires-2 c κs = search needs
+
+info-of-requires : tie.Need-info-of-requires
+info-of-requires c κs = search needs
+
+add-result : tie.Need-add-result
+add-result c = search needs
+
+add-result-2 : tie.Need-add-result-2
+add-result-2 c =
+    let body = firstOf (now (c .before .before .before .before .before .before .before .args .words)) (c .before .before .before .word2 .result) in
+    omega (arith, ap (λ (i : TableInfo). i .keys) (c .before .before .info-of .ensures), c .before .before .before .before .before .before .shared-slice-known .given body, c .before .before .before .before .before .before .before .pre, c .before .before .before .before .before .before .before .good)
+
+add-result-3 : tie.Need-add-result-3
+add-result-3 c = search needs
+
+add-result-4 : tie.Need-add-result-4
+add-result-4 c =
+    let body = firstOf (now (c .before .before .before .before .before .before .before .args .words)) (c .before .before .before .word2 .result) in
+    omega (arith, ap (λ (i : TableInfo). i .width) (c .before .before .info-of .ensures), c .before .before .before .before .before .before .shared-slice-known .given body, c .before .before .before .before .before .before .shared-slice-known .given (body + 1), c .before .before .before .before .before .before .before .pre, c .before .before .before .before .before .before .before .good)
+
+returns : tie.Need-returns
+unfolding endOf
+returns c = rw (← c .before .before .before .before .word .ensures, c .before .if1 .taken, c .before .before .info-of .ensures, c .before .before .before .word2 .ensures)
+
+returns-2 : tie.Need-returns-2
+unfolding endOf
+returns-2 c = rw (← c .before .before .before .before .word .ensures, ne-eqb _ _ (c .before .if1 .left), c .before .before .info-of .ensures, c .before .before .before .word2 .ensures)
+
+pub end-of-spec : {M : Type 1} → statement M
+end-of-spec =
+    tie.close
+    (tie.spec
+    word-requires
+    add-word
+    word-requires-2
+    info-of-requires
+    add-result
+    add-result-2
+    add-result-3
+    add-result-4
+    returns
+    returns-2)

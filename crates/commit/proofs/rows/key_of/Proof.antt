@@ -1,0 +1,66 @@
+use mathlib.Core.Path.{refl, _≡_}
+use Prim.Native.Nat.{_≤_, _-_}
+use native.Mathlib.Omega.{arith}
+use denote.Ref.{now}
+use lib.ListN.{getD, replicate}
+use Rattle.model.specs.Basics.{tab}
+use Rattle.words.specs.Filled.{filled, filled-turn}
+use borrow.Author.Needs.{needs}
+use Rattle.commit.proofs.rows.key_of.Statement.{statement}
+use Rattle.commit.proofs.rows.key_of.Tie as tie
+
+abbrev Inv-loop : tie.InvT-loop
+Inv-loop row k key₀ i₀ key i = (i ≤ k) × (key ≡ filled (λ i. getD row i 0) i (replicate 16 0))
+
+abbrev μ-loop : tie.MeasureT-loop
+μ-loop row k key₀ i₀ key i = k - i
+
+loop-holds : tie.Need-loop-holds Inv-loop μ-loop
+unfolding tab
+loop-holds c = search needs
+
+mul-key : tie.Need-mul-key Inv-loop μ-loop
+mul-key c = search needs
+
+shared-slice-read-key : tie.Need-shared-slice-read-key Inv-loop μ-loop
+shared-slice-read-key c = search needs
+
+mul-key-2 : tie.Need-mul-key-2 Inv-loop μ-loop
+mul-key-2 c = search needs
+
+array-write-key : tie.Need-array-write-key Inv-loop μ-loop
+array-write-key c = search needs
+
+add-i : tie.Need-add-i Inv-loop μ-loop
+add-i c = search needs
+
+loop-less : tie.Need-loop-less Inv-loop μ-loop
+loop-less c = search needs
+
+loop-again : tie.Need-loop-again Inv-loop μ-loop
+loop-again c =
+    let a = c .before .before .before .args in
+    let l = c .before .before .loop in
+    (search needs, filled-turn (λ i. getD (now (a .row)) i 0) (l .i) (replicate 16 0) (l .key) _ 0 (l .inv .1) refl (search needs))
+
+returns : tie.Need-returns Inv-loop μ-loop
+returns c =
+    let l = c .before .loop in
+    let e : l .i ≡ c .before .before .args .k = omega arith in
+    rw e at (l .inv .1)
+
+pub key-of-spec : {M : Type 1} → statement M
+key-of-spec =
+    tie.close
+    (tie.spec
+    Inv-loop
+    μ-loop
+    loop-holds
+    mul-key
+    shared-slice-read-key
+    mul-key-2
+    array-write-key
+    add-i
+    loop-less
+    loop-again
+    returns)

@@ -1,0 +1,12 @@
+pub mod Rows
+pub mod Walk
+pub mod Commit
+pub mod MergeLaws
+pub mod RowLaws
+pub mod WalkLaws
+pub mod TableLaws
+pub mod Laid
+pub mod RecordLaws
+pub mod Removals
+pub mod BookLaws
+pub mod CommitLaws

@@ -1,0 +1,84 @@
+-- What the code that appends and puts rows leans on.
+use Prim.Native.Nat.{ℕ, _+_, _<_, _≤_}
+use mathlib.Core.Path.{_≡_, refl, sym, ap, _∙_}
+use mathlib.Core.Bool.{Bool, true, false, cond}
+use mathlib.Core.List.{List}
+use native.Mathlib.Nat.{mul-le-mul-left, mul-one}
+use native.Mathlib.Omega.{arith}
+use lib.Dec.{leb}
+use borrow.Author.Tests.{leb-true}
+use lib.ListN.{length, getD, take, drop, replicate}
+use lib.Seq.{paste, length-sets, length-paste, take-at, take-take}
+use Rattle.model.specs.Basics.{eqList, found, least, tab}
+use Rattle.model.specs.Book.Decode.{part}
+use Rattle.model.specs.Commit.{mergeWords}
+use Rattle.model.specs.Laws.Lists.{length-tab}
+use Rattle.model.specs.Laws.Bodies.{length-part}
+use Rattle.words.specs.Filled.{filled, length-filled}
+use Rattle.tables.specs.declared.TableInfo.{TableInfo}
+use Rattle.tables.specs.declared.Found.{Found}
+use Rattle.tables.specs.declared.Found.the-variants.{At, Nothing}
+use Rattle.tables.specs.Tables.{Stands, front, sameWords, rowAt, foundRow}
+use Rattle.tables.specs.TablesLaws.{front-take, next-row}
+use Rattle.commit.specs.Rows.{Rows, Sound, Stand, grown, overrun, newInfo, appended, putAt, putRow}
+
+-- ## A key in an array
+
+pub key-front : (row : List ℕ) (k : ℕ) → k ≤ length row → k ≤ 16 → front (filled (λ i. getD row i 0) k (replicate 16 0)) k ≡ take k row
+key-front row k h l =
+    let n = length-tab (λ (i : ℕ). getD row i 0) k in
+    front-take (filled (λ i. getD row i 0) k (replicate 16 0)) k (omega (arith, length-filled (λ (i : ℕ). getD row i 0) k (replicate 16 0) l))
+    ∙ take-at (tab (λ i. getD row i 0) k) (drop k (replicate 16 0)) k n
+    ∙ front-take row k h
+
+pub key-part : (w : List ℕ) (at width k : ℕ) (key : List ℕ) → key ≡ filled (λ i. getD (part w at width) i 0) k (replicate 16 0) → k ≤ width → at + width ≤ length w → k ≤ 16 → front key k ≡ part w at k
+key-part w at width k key e h l f =
+    ap (λ (x : List ℕ). front x k) e
+    ∙ key-front (part w at width) k (omega (arith, length-part w at width l)) f
+    ∙ take-take k width (drop at w) h
+
+-- a search goes by the key's words alone
+found-same : (w : List ℕ) (t : TableInfo) (a b : List ℕ) → front a (t .keys) ≡ front b (t .keys) → foundRow w t a ≡ foundRow w t b
+unfolding foundRow sameWords
+found-same w t a b e = ap (λ (key : List ℕ). found (least (λ i. eqList (part w (rowAt t i) (t .keys)) key) (t .rows)) (λ i. At (rowAt t i)) (λ _. Nothing)) e
+
+pub key-found : (w : List ℕ) (t : TableInfo) (row key : List ℕ) → key ≡ filled (λ i. getD row i 0) (t .keys) (replicate 16 0) → t .keys ≤ length row → t .keys ≤ 16 → foundRow w t row ≡ foundRow w t key
+key-found w t row key e h l = found-same w t row key (front-take row (t .keys) h ∙ sym (ap (λ (x : List ℕ). front x (t .keys)) e ∙ key-front row (t .keys) h l))
+
+-- ## Rows that stand
+
+module _ {width : ℕ} (some : 0 < width) {s : Rows} (st : Stand width s) where
+  pub few-rows : s .part .count ≤ length (s .words)
+  few-rows = omega (arith, st .used, st .within, mul-le-mul-left (s .part .count) some, mul-one (s .part .count))
+
+pub new-stands : {i : TableInfo} {s : Rows} → Sound i → Stand (i .width) s → Stands (s .words) (newInfo i (s .part))
+new-stands {i} {s} ok st = record { rows = omega (arith, st .used, st .within); keys = ok .keys; few = ok .few }
+
+-- what a row appended or put keeps
+abbrev pub Keeps : ℕ → Rows → Rows → Type 0
+Keeps width s s′ = Stand width s′ × (length (s′ .words) ≡ length (s .words))
+
+pub append-keeps : {width : ℕ} (row : List ℕ) → length row ≡ width → (s : Rows) → Stand width s → Keeps width s (appended row s)
+unfolding appended
+append-keeps {width} row len s st = by (s .part .over) (leb (s .part .used + length row) (length (s .words))) refl
+  where
+    longer : Rows
+    longer = record { words = paste (s .words) (s .part .used) row (length row); part = grown (s .part) (length row) }
+
+    by : (b c : Bool) → leb (s .part .used + length row) (length (s .words)) ≡ c → Keeps width s (cond b s (cond c longer (record { words = s .words; part = overrun (s .part) })))
+    by true c e = (st, refl)
+    by false false e = (record { used = st .used; within = st .within }, refl)
+    by false true e =
+        let l = leb-true (s .part .used + length row) (length (s .words)) e in
+        let n = length-paste (s .words) (s .part .used) row (length row) l (omega arith) in
+        (record { used = omega (arith, st .used, next-row (s .part .count) width); within = omega arith }, n)
+
+pub put-keeps : (i : TableInfo) (row : List ℕ) → length row ≡ i .width → (s : Rows) → Stand (i .width) s → Keeps (i .width) s (putRow i row s)
+unfolding putRow
+put-keeps i row len s st = by (foundRow (s .words) (newInfo i (s .part)) row)
+  where
+    by : (o : Found) → Keeps (i .width) s (putAt o i row s)
+    by Nothing = append-keeps row len s st
+    by (At p) =
+        let n = length-sets (s .words) (p + i .keys) (mergeWords (i .merge) (part (s .words) (p + i .keys) (length (drop (i .keys) row))) (drop (i .keys) row)) in
+        (record { used = st .used; within = omega (arith, st .within) }, n)

@@ -1,0 +1,55 @@
+-- What the loops over rows and tables lean on.
+use Prim.Native.Nat.{ℕ, _+_, _<_, _≤_}
+use mathlib.Core.Path.{_≡_, refl, _∙_}
+use mathlib.Core.Bool.{Bool, true, false, cond}
+use mathlib.Core.List.{List}
+use native.Mathlib.Omega.{arith}
+use lib.ListN.{length}
+use Rattle.model.specs.Book.Decode.{part}
+use Rattle.model.specs.Laws.Iter.{iter-keeps}
+use Rattle.model.specs.Laws.Bodies.{length-part}
+use Rattle.tables.specs.declared.TableInfo.{TableInfo}
+use Rattle.tables.specs.Tables.{infoOf, rowAt}
+use Rattle.tables.specs.TablesLaws.{row-within}
+use Rattle.commit.specs.Rows.{Rows, Sound, Stand, appended}
+use Rattle.commit.specs.RowLaws.{Keeps, append-keeps}
+use Rattle.commit.specs.Walk.{removed, inserted}
+use Rattle.commit.specs.WalkLaws.{inserted-keeps}
+use Rattle.commit.specs.Commit.{Ready, Left, keepRow, kept, begun, tableCommitted}
+
+pub keep-keeps : (w log : List ℕ) (t : ℕ) (i : TableInfo) (at : ℕ) (s : Rows) → at + i .width ≤ length w → Stand (i .width) s → Keeps (i .width) s (keepRow w log t i at s)
+unfolding keepRow
+keep-keeps w log t i at s h st = by (removed w log t (i .keys) (part w at (i .keys)))
+  where
+    by : (b : Bool) → Keeps (i .width) s (cond b s (appended (part w at (i .width)) s))
+    by true = (st, refl)
+    by false = append-keeps (part w at (i .width)) (length-part w at (i .width) h) s st
+
+pub kept-keeps : (w log : List ℕ) (t : ℕ) (i : TableInfo) (s : Rows) → Ready w i → Stand (i .width) s → Keeps (i .width) s (kept w log t i (i .rows) s)
+unfolding kept
+kept-keeps w log t i s r st = iter-keeps (Keeps (i .width) s) (λ j. keepRow w log t i (rowAt i j)) (i .rows) s (st, refl) one
+  where
+    one : (j : ℕ) (x : Rows) → j < i .rows → Keeps (i .width) s x → Keeps (i .width) s (keepRow w log t i (rowAt i j) x)
+    one j x l k =
+        let m = keep-keeps w log t i (rowAt i j) x (omega (arith, row-within j (i .rows) (i .width) l, r .stands .rows)) (k .0) in
+        (m .0, m .1 ∙ k .1)
+
+-- a table's rows after the commit, past those before it
+module _ (w log : List ℕ) (t : ℕ) (c : Left) (r : Ready w (infoOf w t)) (l : c .result .used ≤ length (c .words)) where
+  begun-stands : Stand (infoOf w t .width) (begun c)
+  begun-stands = record { used = omega arith; within = l }
+
+  pub old-keeps : Keeps (infoOf w t .width) (begun c) (kept w log t (infoOf w t) (infoOf w t .rows) (begun c))
+  old-keeps = kept-keeps w log t (infoOf w t) (begun c) r begun-stands
+
+  pub table-keeps : Keeps (infoOf w t .width) (begun c) (inserted w log t (infoOf w t) (kept w log t (infoOf w t) (infoOf w t .rows) (begun c)))
+  table-keeps =
+      let m = inserted-keeps w log t (kept w log t (infoOf w t) (infoOf w t .rows) (begun c)) (old-keeps .0) in
+      (m .0, m .1 ∙ old-keeps .1)
+
+  pub table-fits : (length (tableCommitted w log t c .words) ≡ length (c .words)) × (tableCommitted w log t c .result .used ≤ length (c .words))
+  unfolding tableCommitted
+  table-fits = (table-keeps .1, omega (arith, table-keeps .0 .within, table-keeps .1))
+
+pub ready-sound : {w : List ℕ} {i : TableInfo} → Ready w i → Sound i
+ready-sound r = record { keys = r .stands .keys; few = r .stands .few; some = r .some }
