@@ -4,6 +4,8 @@ use mathlib.Core.Option.{Option, none, some}
 use mathlib.Core.List.{List}
 use Rattle.model.specs.Book.Contents.{tableCount}
 use Rattle.instr.specs.declared.Entries.{Entries}
+use Rattle.instr.specs.declared.Dst.{Dst}
+use Rattle.instr.specs.declared.Dst.the-variants.{Var, Nothing}
 use Rattle.instr.specs.declared.Instr.{Instr}
 use Rattle.instr.specs.declared.Instr.the-variants.{LookupOrInsertDefault, LookupWithDefault, Lookup, LookupWithFallback, Insert, InsertIfEq, Remove, External, ExternalWithFallback, AssertEq, AssertNe, AssertAnyNe, ReadCounter}
 
@@ -42,6 +44,10 @@ bindsOf (AssertEq l r) = none
 bindsOf (AssertNe l r) = none
 bindsOf (AssertAnyNe ops divider) = none
 bindsOf (ReadCounter counter dst) = some (dst .0)
+
+abbrev pub variableOf : Dst → Option ℕ
+variableOf (Var v) = some (v .0)
+variableOf Nothing = none
 
 abbrev pub IsVariable : Option ℕ → Type 0
 IsVariable none = Unit {0}

@@ -9,6 +9,7 @@ ghost use Prim.Native.Nat.{_+_, _*_, _≤_, _<_};
 ghost use lib.ListN.{getD};
 ghost use Rattle.model.specs.Book.Decode as decode;
 ghost use Rattle.instr.specs.Instr as specs;
+ghost use Rattle.instr.specs.Stands.{bindsOf, variableOf};
 
 // A variable or a constant.
 pub enum QueryEntry {
@@ -94,6 +95,34 @@ pub enum Instr {
         counter: CounterId,
         dst: Variable,
     },
+}
+
+// The variable that an instruction binds, or none.
+pub enum Dst {
+    Var(Variable),
+    Nothing,
+}
+
+impl Instr {
+    pub fn dst(self) -> Dst
+        ensures { λ r. ⌜ variableOf r ≡ bindsOf self ⌝ }
+    {
+        match self {
+            Instr::LookupOrInsertDefault { dst_var, .. } => Dst::Var(dst_var),
+            Instr::LookupWithDefault { dst_var, .. } => Dst::Var(dst_var),
+            Instr::Lookup { dst_var, .. } => Dst::Var(dst_var),
+            Instr::LookupWithFallback { dst_var, .. } => Dst::Var(dst_var),
+            Instr::Insert { .. } => Dst::Nothing,
+            Instr::InsertIfEq { .. } => Dst::Nothing,
+            Instr::Remove { .. } => Dst::Nothing,
+            Instr::External { dst, .. } => Dst::Var(dst),
+            Instr::ExternalWithFallback { dst, .. } => Dst::Var(dst),
+            Instr::AssertEq(..) => Dst::Nothing,
+            Instr::AssertNe(..) => Dst::Nothing,
+            Instr::AssertAnyNe { .. } => Dst::Nothing,
+            Instr::ReadCounter { dst, .. } => Dst::Var(dst),
+        }
+    }
 }
 
 impl Entries {
