@@ -58,10 +58,10 @@ statusOf Spent = spent
 statusOf Full = full
 
 -- the machine is stuck, or both end early for the same reason, or both go on: from s₀ the machine came to s, and the code to `stop`
-pub data Ended (s₀ s : State) (stop : Stop) (R : Type 0) : Type 0 where
-  sticks : s .status ≡ stuck → Ended s₀ s stop R
-  stops : goesOn stop ≡ false → s .status ≡ statusOf stop → s .answers ≡ s₀ .answers → Ended s₀ s stop R
-  goes : s .status ≡ going → stop ≡ Going → R → Ended s₀ s stop R
+pub data Follows (s₀ s : State) (stop : Stop) (R : Type 0) : Type 0 where
+  sticks : s .status ≡ stuck → Follows s₀ s stop R
+  stops : goesOn stop ≡ false → s .status ≡ statusOf stop → s .answers ≡ s₀ .answers → Follows s₀ s stop R
+  goes : s .status ≡ going → stop ≡ Going → R → Follows s₀ s stop R
 
 -- ## Lists
 
@@ -132,7 +132,7 @@ pub record Pass {C : Type 0} (stopOf : C → Stop) (has : State → ℕ → Bool
   pub idle : (i : ℕ) (c : C) → who i ≡ false → g i c ≡ c
   pub kept : (i : ℕ) (s : State) (c : C) → R i s c → s .answers ≡ s₀ .answers
   pub skip : (i : ℕ) (s : State) (c : C) → i < n → who i ≡ false → R i s c → R (suc i) s c
-  pub turn : (i : ℕ) (s : State) (c : C) → i < n → who i ≡ true → s .status ≡ going → stopOf c ≡ Going → R i s c → Ended s (f i s) (stopOf (g i c)) (R (suc i) (f i s) (g i c))
+  pub turn : (i : ℕ) (s : State) (c : C) → i < n → who i ≡ true → s .status ≡ going → stopOf c ≡ Going → R i s c → Follows s (f i s) (stopOf (g i c)) (R (suc i) (f i s) (g i c))
 
 module _ {C : Type 0} (stopOf : C → Stop) (has : State → ℕ → Bool) (f : ℕ → State → State) (g : ℕ → C → C) (R : ℕ → State → C → Type 0) (who : ℕ → Bool) (n : ℕ) (s₀ : State) (p : Pass stopOf has f g R who n s₀) (c₀ : C)
     (start : s₀ .status ≡ going) (on : stopOf c₀ ≡ Going) (begin : R 0 s₀ c₀) where
@@ -147,27 +147,27 @@ module _ {C : Type 0} (stopOf : C → Stop) (has : State → ℕ → Bool) (f : 
   not-going Spent t e q = rw q
   not-going Full t e q = rw q
 
-  mid : (i : ℕ) → i ≤ n → Ended s₀ (ran i) (stopOf (did i)) (R i (ran i) (did i))
+  mid : (i : ℕ) → i ≤ n → Follows s₀ (ran i) (stopOf (did i)) (R i (ran i) (did i))
   mid zero h = goes start on begin
   mid (suc i) h = by (mid i (omega arith))
     where
-      turned : (b : Bool) → who i ≡ b → ran i .status ≡ going → stopOf (did i) ≡ Going → R i (ran i) (did i) → Ended s₀ (when b (f i) (ran i)) (stopOf (g i (did i))) (R (suc i) (when b (f i) (ran i)) (g i (did i)))
+      turned : (b : Bool) → who i ≡ b → ran i .status ≡ going → stopOf (did i) ≡ Going → R i (ran i) (did i) → Follows s₀ (when b (f i) (ran i)) (stopOf (g i (did i))) (R (suc i) (when b (f i) (ran i)) (g i (did i)))
       turned true e a b r = chain (p .turn i (ran i) (did i) (omega arith) e a b r)
         where
-          chain : Ended (ran i) (f i (ran i)) (stopOf (g i (did i))) (R (suc i) (f i (ran i)) (g i (did i))) → Ended s₀ (f i (ran i)) (stopOf (g i (did i))) (R (suc i) (f i (ran i)) (g i (did i)))
+          chain : Follows (ran i) (f i (ran i)) (stopOf (g i (did i))) (R (suc i) (f i (ran i)) (g i (did i))) → Follows s₀ (f i (ran i)) (stopOf (g i (did i))) (R (suc i) (f i (ran i)) (g i (did i)))
           chain (sticks x) = sticks x
           chain (stops x y z) = stops x y (z ∙ p .kept i (ran i) (did i) r)
           chain (goes x y z) = goes x y z
-      turned false e a b r = subst (λ c. Ended s₀ (ran i) (stopOf c) (R (suc i) (ran i) c)) (sym (p .idle i (did i) e)) (goes a b (p .skip i (ran i) (did i) (omega arith) e r))
+      turned false e a b r = subst (λ c. Follows s₀ (ran i) (stopOf c) (R (suc i) (ran i) c)) (sym (p .idle i (did i) e)) (goes a b (p .skip i (ran i) (did i) (omega arith) e r))
 
-      by : Ended s₀ (ran i) (stopOf (did i)) (R i (ran i) (did i)) → Ended s₀ (ran (suc i)) (stopOf (did (suc i))) (R (suc i) (ran (suc i)) (did (suc i)))
+      by : Follows s₀ (ran i) (stopOf (did i)) (R i (ran i) (did i)) → Follows s₀ (ran (suc i)) (stopOf (did (suc i))) (R (suc i) (ran (suc i)) (did (suc i)))
       by (sticks x) = let z : has (ran i) i ≡ false = p .quiet (ran i) i (rw x) in sticks (ap (λ (s : State). s .status) (when-F (has (ran i) i) (f i) (ran i) z) ∙ x)
       by (stops x y z) =
           let q : has (ran i) i ≡ false = p .quiet (ran i) i (not-going (stopOf (did i)) (ran i .status) x y) in
           let e = when-F (has (ran i) i) (f i) (ran i) q in
           let k = p .halted i (did i) x in
           stops (ap (λ (c : C). goesOn (stopOf c)) k ∙ x) (ap (λ (s : State). s .status) e ∙ y ∙ ap (λ (c : C). statusOf (stopOf c)) (sym k)) (ap (λ (s : State). s .answers) e ∙ z)
-      by (goes x y r) = subst (λ b. Ended s₀ (when b (f i) (ran i)) (stopOf (g i (did i))) (R (suc i) (when b (f i) (ran i)) (g i (did i)))) (sym (p .same i (ran i) (did i) (omega arith) x r)) (turned (who i) refl x y r)
+      by (goes x y r) = subst (λ b. Follows s₀ (when b (f i) (ran i)) (stopOf (g i (did i))) (R (suc i) (when b (f i) (ran i)) (g i (did i)))) (sym (p .same i (ran i) (did i) (omega arith) x r)) (turned (who i) refl x y r)
 
-  pub pass-ends : n ≤ 256 → Ended s₀ (ran n) (stopOf (did 256)) (R n (ran n) (did 256))
-  pass-ends h = subst (λ c. Ended s₀ (ran n) (stopOf c) (R n (ran n) c)) (sym (iter-idle g n 256 c₀ h (λ i c l. p .idle i c (p .past i l)))) (mid n (omega arith))
+  pub pass-ends : n ≤ 256 → Follows s₀ (ran n) (stopOf (did 256)) (R n (ran n) (did 256))
+  pass-ends h = subst (λ c. Follows s₀ (ran n) (stopOf c) (R n (ran n) c)) (sym (iter-idle g n 256 c₀ h (λ i c l. p .idle i c (p .past i l)))) (mid n (omega arith))

@@ -38,7 +38,7 @@ use Rattle.commit.specs.RecordLaws.{Sized}
 use Rattle.execution.specs.declared.Stop.the-variants.{Going, Full}
 use Rattle.execution.specs.declared.ExecutionState.{ExecutionState}
 use Rattle.execution.specs.Execution.{goesOn, isGoing as codeGoes, changing, Logged, afterAppend, staged, stagedLane, stagedLanes}
-use Rattle.simulation.specs.Represents.{machine, LogIs, statusOf, Ended, sticks, stops, goes, ListIs, list-read, front-list, pass-ends}
+use Rattle.simulation.specs.Represents.{machine, LogIs, statusOf, Follows, sticks, stops, goes, ListIs, list-read, front-list, pass-ends}
 
 -- a state that has the lanes of another
 pub record Kept (s₀ s : State) : Type 0 where
@@ -83,7 +83,7 @@ module _ (w : List ℕ) (L : ℕ) where
           → (b : Bool) → leb (logWords (s .log ++ (new ∷ []))) L ≡ b
           → let s′ : State = ifRoom b new (change (note (reads o ws) s)) (λ s′. s′) in
           let c′ : Logged = record { state = changing (afterAppend (cond b (Used (logWords (s .log ++ (new ∷ [])))) NoRoom) (c .state)); log = cond b (logOf (s .log ++ (new ∷ [])) L) (logOf (s .log) L) } in
-          Ended s s′ (c′ .state .stop) (Staged s′ c′)
+          Follows s s′ (c′ .state .stop) (Staged s′ c′)
       staged-turn s c a b m is true e = goes a b (record {
         kept = record { bindings = m .kept .bindings; live = m .kept .live; out = m .kept .out; answers = m .kept .answers };
         is = record {
@@ -100,19 +100,19 @@ module _ (w : List ℕ) (L : ℕ) where
       staged-turn s c a b m is false e = stops refl refl refl
 
     pub list-turn : (o : Site) (s : State) (c : Logged) → o .lane < 256 → s .status ≡ going → c .state .stop ≡ Going → Staged s c
-        → Ended s (stageList (machine w L) o kind t n (entriesOf w l) s) (stagedLane kind t (row (o .lane)) true c .state .stop) (Staged (stageList (machine w L) o kind t n (entriesOf w l) s) (stagedLane kind t (row (o .lane)) true c))
+        → Follows s (stageList (machine w L) o kind t n (entriesOf w l) s) (stagedLane kind t (row (o .lane)) true c .state .stop) (Staged (stageList (machine w L) o kind t n (entriesOf w l) s) (stagedLane kind t (row (o .lane)) true c))
     unfolding stageList stagedLane
-    list-turn o s c h a b m = need-ind (λ s′. Ended s s′ (stagedLane kind t (row (o .lane)) true c .state .stop) (Staged s′ (stagedLane kind t (row (o .lane)) true c))) (listOf (s .bindings) (o .lane) n (entriesOf w l)) s _ (sticks refl) read
+    list-turn o s c h a b m = need-ind (λ s′. Follows s s′ (stagedLane kind t (row (o .lane)) true c .state .stop) (Staged s′ (stagedLane kind t (row (o .lane)) true c))) (listOf (s .bindings) (o .lane) n (entriesOf w l)) s _ (sticks refl) read
       where
         read : (ws : List ℕ) → listOf (s .bindings) (o .lane) n (entriesOf w l) ≡ some ws
             → let s′ : State = ifRoom (leb (logWords (s .log ++ (new o ws ∷ []))) L) (new o ws) (change (note (reads o ws) s)) (λ s′. s′) in
-            Ended s s′ (stagedLane kind t (row (o .lane)) true c .state .stop) (Staged s′ (stagedLane kind t (row (o .lane)) true c))
+            Follows s s′ (stagedLane kind t (row (o .lane)) true c .state .stop) (Staged s′ (stagedLane kind t (row (o .lane)) true c))
         read ws e =
             let is : ListIs ws n (row (o .lane)) = list-read w (s₀ .bindings) (o .lane) h l n ws few named (rw (m .kept .bindings) at e) in
             let code : stagedLane kind t (row (o .lane)) true c ≡ record { state = changing (afterAppend (cond (leb (logWords (s .log ++ (new o ws ∷ []))) L) (Used (logWords (s .log ++ (new o ws ∷ [])))) NoRoom) (c .state)); log = cond (leb (logWords (s .log ++ (new o ws ∷ []))) L) (logOf (s .log ++ (new o ws ∷ [])) L) (logOf (s .log) L) } =
             when-T (codeGoes (c .state)) _ c (ap goesOn b) ∙ ap (λ (g : Logged). record { state = changing (g .state); log = g .log }) (stage-is (s .log) (s .counters) (s .changed) (c .state) (c .log) index (m .is) (new o ws) (row (o .lane) .vals) (row (o .lane) .count) (record-is (new o ws) (row (o .lane)) n is)) in
             let s′ : State = ifRoom (leb (logWords (s .log ++ (new o ws ∷ []))) L) (new o ws) (change (note (reads o ws) s)) (λ s′. s′) in
-            subst (λ (g : Logged). Ended s s′ (g .state .stop) (Staged s′ g)) (sym code) (staged-turn o ws s c a b m is (leb (logWords (s .log ++ (new o ws ∷ []))) L) refl)
+            subst (λ (g : Logged). Follows s s′ (g .state .stop) (Staged s′ g)) (sym code) (staged-turn o ws s c a b m is (leb (logWords (s .log ++ (new o ws ∷ []))) L) refl)
 
     -- ## All lanes
 
@@ -130,10 +130,10 @@ module _ (w : List ℕ) (L : ℕ) where
 
     -- f stages where who says so, and does nothing of note elsewhere
     module _ (f : ℕ → State → State) (who : List Bool) (small : length (s₀ .live) ≤ 256)
-        (turn : (i : ℕ) (s : State) (c : Logged) → i < length (s₀ .live) → getD (s₀ .live) i false ≡ true → s .status ≡ going → c .state .stop ≡ Going → Staged s c → Ended s (f i s) (stagedLane kind t (row i) (getD who i false) c .state .stop) (Staged (f i s) (stagedLane kind t (row i) (getD who i false) c)))
+        (turn : (i : ℕ) (s : State) (c : Logged) → i < length (s₀ .live) → getD (s₀ .live) i false ≡ true → s .status ≡ going → c .state .stop ≡ Going → Staged s c → Follows s (f i s) (stagedLane kind t (row i) (getD who i false) c .state .stop) (Staged (f i s) (stagedLane kind t (row i) (getD who i false) c)))
         (dead : (i : ℕ) → getD (s₀ .live) i false ≡ false → getD who i false ≡ false) where
       pub stage-pass : (c₀ : Logged) → s₀ .status ≡ going → c₀ .state .stop ≡ Going → LogIs w L (s₀ .log) (s₀ .counters) (s₀ .changed) (c₀ .state) (c₀ .log) index
-          → Ended s₀ (lanes f s₀) (stagedLanes kind t row who c₀ .state .stop) (Staged (lanes f s₀) (stagedLanes kind t row who c₀))
+          → Follows s₀ (lanes f s₀) (stagedLanes kind t row who c₀ .state .stop) (Staged (lanes f s₀) (stagedLanes kind t row who c₀))
       unfolding lanes stagedLanes
       stage-pass c₀ a b is = pass-ends (λ c. c .state .stop) isLive f (λ i. stagedLane kind t (row i) (getD who i false)) (λ i s c. Staged s c) (λ i. getD (s₀ .live) i false) (length (s₀ .live)) s₀ (record {
         quiet = λ s i e. rw e;
@@ -149,9 +149,9 @@ module _ (w : List ℕ) (L : ℕ) where
     pub list-pass : (k j : ℕ) → length (s₀ .live) ≤ 256 → (c₀ : Logged) → s₀ .status ≡ going → c₀ .state .stop ≡ Going → LogIs w L (s₀ .log) (s₀ .counters) (s₀ .changed) (c₀ .state) (c₀ .log) index
         → let s : State = lanes (λ i. stageList (machine w L) (here k j i) kind t n (entriesOf w l)) s₀ in
         let c : Logged = stagedLanes kind t row (padded (s₀ .live)) c₀ in
-        Ended s₀ s (c .state .stop) (Staged s c)
+        Follows s₀ s (c .state .stop) (Staged s c)
     list-pass k j small c₀ = stage-pass (λ i. stageList (machine w L) (here k j i) kind t n (entriesOf w l)) (padded (s₀ .live)) small
-        (λ i s c h e a b m. subst (λ (q : Bool). Ended s (stageList (machine w L) (here k j i) kind t n (entriesOf w l) s) (stagedLane kind t (row i) q c .state .stop) (Staged (stageList (machine w L) (here k j i) kind t n (entriesOf w l) s) (stagedLane kind t (row i) q c))) (sym (has-padded (s₀ .live) i ∙ e)) (list-turn (here k j i) s c (omega arith) a b m))
+        (λ i s c h e a b m. subst (λ (q : Bool). Follows s (stageList (machine w L) (here k j i) kind t n (entriesOf w l) s) (stagedLane kind t (row i) q c .state .stop) (Staged (stageList (machine w L) (here k j i) kind t n (entriesOf w l) s) (stagedLane kind t (row i) q c))) (sym (has-padded (s₀ .live) i ∙ e)) (list-turn (here k j i) s c (omega arith) a b m))
         (λ i e. has-padded (s₀ .live) i ∙ e) c₀
 
     -- where two entries are equal
@@ -173,18 +173,18 @@ module _ (w : List ℕ) (L : ℕ) where
       abbrev turn : ℕ → ℕ → ℕ → State → State
       turn k j i = readPair (here k j i) (entryOf a) (entryOf b) λ x y. when (eqb x y) (stageList (machine w L) (here k j i) kind t n (entriesOf w l))
 
-      pair-turn : (k j i : ℕ) (s : State) (c : Logged) → i < 256 → s .status ≡ going → c .state .stop ≡ Going → Staged s c → Ended s (turn k j i s) (stagedLane kind t (row i) (equal i) c .state .stop) (Staged (turn k j i s) (stagedLane kind t (row i) (equal i) c))
+      pair-turn : (k j i : ℕ) (s : State) (c : Logged) → i < 256 → s .status ≡ going → c .state .stop ≡ Going → Staged s c → Follows s (turn k j i s) (stagedLane kind t (row i) (equal i) c .state .stop) (Staged (turn k j i s) (stagedLane kind t (row i) (equal i) c))
       unfolding readPair holds
       pair-turn k j i s c h e o m = need-ind P (valueOf (s .bindings) i (entryOf a)) s _ (sticks refl) (λ x p. need-ind P (valueOf (s .bindings) i (entryOf b)) s _ (sticks refl) (λ y q. both x y (is a na x p) (is b nb y q)))
         where
           P : State → Type 0
-          P s′ = Ended s s′ (stagedLane kind t (row i) (equal i) c .state .stop) (Staged s′ (stagedLane kind t (row i) (equal i) c))
+          P s′ = Follows s s′ (stagedLane kind t (row i) (equal i) c .state .stop) (Staged s′ (stagedLane kind t (row i) (equal i) c))
 
           is : (e : QueryEntry) → Named (entryOf e) → (x : ℕ) → valueOf (s .bindings) i (entryOf e) ≡ some x → wordOf (columnsOf (s₀ .bindings)) i (entryOf e) ≡ x
           is e n x p = word-is (s₀ .bindings) i h (entryOf e) x n (rw (m .kept .bindings) at p)
 
           both : (x y : ℕ) → wordOf (columnsOf (s₀ .bindings)) i (entryOf a) ≡ x → wordOf (columnsOf (s₀ .bindings)) i (entryOf b) ≡ y → P (when (eqb x y) (stageList (machine w L) (here k j i) kind t n (entriesOf w l)) (note (reads (here k j i) (x ∷ y ∷ [])) s))
-          both x y p q = subst (λ (r : Bool). Ended s (when (eqb x y) stages s₁) (stagedLane kind t (row i) r c .state .stop) (Staged (when (eqb x y) stages s₁) (stagedLane kind t (row i) r c))) (sym (rw (p, q))) (by (eqb x y))
+          both x y p q = subst (λ (r : Bool). Follows s (when (eqb x y) stages s₁) (stagedLane kind t (row i) r c .state .stop) (Staged (when (eqb x y) stages s₁) (stagedLane kind t (row i) r c))) (sym (rw (p, q))) (by (eqb x y))
             where
               s₁ : State
               s₁ = note (reads (here k j i) (x ∷ y ∷ [])) s
@@ -195,19 +195,19 @@ module _ (w : List ℕ) (L : ℕ) where
               m₁ : Staged s₁ c
               m₁ = record { kept = record { bindings = m .kept .bindings; live = m .kept .live; out = m .kept .out; answers = m .kept .answers }; is = m .is }
 
-              by : (r : Bool) → Ended s (when r stages s₁) (stagedLane kind t (row i) r c .state .stop) (Staged (when r stages s₁) (stagedLane kind t (row i) r c))
+              by : (r : Bool) → Follows s (when r stages s₁) (stagedLane kind t (row i) r c .state .stop) (Staged (when r stages s₁) (stagedLane kind t (row i) r c))
               by true = turned (list-turn (here k j i) s₁ c h e o m₁)
                 where
-                  turned : Ended s₁ (stages s₁) (stagedLane kind t (row i) true c .state .stop) (Staged (stages s₁) (stagedLane kind t (row i) true c)) → Ended s (stages s₁) (stagedLane kind t (row i) true c .state .stop) (Staged (stages s₁) (stagedLane kind t (row i) true c))
+                  turned : Follows s₁ (stages s₁) (stagedLane kind t (row i) true c .state .stop) (Staged (stages s₁) (stagedLane kind t (row i) true c)) → Follows s (stages s₁) (stagedLane kind t (row i) true c .state .stop) (Staged (stages s₁) (stagedLane kind t (row i) true c))
                   turned (sticks x) = sticks x
                   turned (stops x y z) = stops x y z
                   turned (goes x y z) = goes x y z
-              by false = subst (λ (d : Logged). Ended s s₁ (d .state .stop) (Staged s₁ d)) (sym (idle i c)) (goes e o m₁)
+              by false = subst (λ (d : Logged). Follows s s₁ (d .state .stop) (Staged s₁ d)) (sym (idle i c)) (goes e o m₁)
 
       pub if-pass : (k j : ℕ) → length (s₀ .live) ≤ 256 → (c₀ : Logged) → s₀ .status ≡ going → c₀ .state .stop ≡ Going → LogIs w L (s₀ .log) (s₀ .counters) (s₀ .changed) (c₀ .state) (c₀ .log) index
           → let s : State = lanes (turn k j) s₀ in
           let c : Logged = stagedLanes kind t row who c₀ in
-          Ended s₀ s (c .state .stop) (Staged s c)
+          Follows s₀ s (c .state .stop) (Staged s c)
       if-pass k j small c₀ = stage-pass (turn k j) who small
-          (λ i s c h e x y m. subst (λ (q : Bool). Ended s (turn k j i s) (stagedLane kind t (row i) q c .state .stop) (Staged (turn k j i s) (stagedLane kind t (row i) q c))) (sym (is-who i (omega arith) ∙ rw e)) (pair-turn k j i s c (omega arith) x y m))
+          (λ i s c h e x y m. subst (λ (q : Bool). Follows s (turn k j i s) (stagedLane kind t (row i) q c .state .stop) (Staged (turn k j i s) (stagedLane kind t (row i) q c))) (sym (is-who i (omega arith) ∙ rw e)) (pair-turn k j i s c (omega arith) x y m))
           no-who c₀

@@ -118,7 +118,7 @@ bool-cases : (b : Bool) → (b ≡ true) ⊎ (b ≡ false)
 bool-cases true = inl refl
 bool-cases false = inr refl
 
-eq-or-not : (i j : ℕ) → (j ≡ i) ⊎ (j ≢ i)
+pub eq-or-not : (i j : ℕ) → (j ≡ i) ⊎ (j ≢ i)
 eq-or-not i j = elim (decLt i j) [ yes p ↦ inr (λ e. omega arith) | no p ↦ elim (decLt j i) [ yes q ↦ inr (λ e. omega arith) | no q ↦ inl (omega arith) ] ]
 
 -- ## A pass

@@ -1,0 +1,36 @@
+use Rattle.book.specs.BookLaws.{words-loaded}
+use Rattle.words.specs.Filled.{part-fits}
+use Rattle.model.specs.Laws.Words.{length-words}
+use denote.Ref.{now}
+use lib.Seq.{length-take-le}
+use lib.ListN.{length}
+use native.Mathlib.Omega.{arith}
+use Prim.Native.Nat.{_/_}
+use mathlib.Core.Path.{sym}
+use borrow.Author.Needs.{needs}
+use Rattle.book.proofs.load_words.Statement.{statement}
+use Rattle.book.proofs.load_words.Tie as tie
+
+slice-relend-prefix-load : tie.Need-slice-relend-prefix-load
+slice-relend-prefix-load c = omega (arith, length-words (now (c .before .before .args .book)), c .before .before .pre)
+
+slice-aggregate-load : tie.Need-slice-aggregate-load
+slice-aggregate-load c = sym (length-take-le _ _ (omega (arith, length-words (now (c .before .before .before .args .book)), c .before .before .before .pre)))
+
+load-requires : tie.Need-load-requires
+load-requires c κs =
+    let a = c .before .before .before .args in
+    part-fits 4 (length (now (a .book)) / 4) (length (now (a .book))) (now (a .words)) (omega (arith, length-words (now (a .book)), c .before .before .before .pre)) (omega arith)
+
+same-length : tie.Need-same-length
+same-length c = search needs
+
+returns : tie.Need-returns
+returns c =
+    let a = c .before .before .before .before .before .before .args in
+    (sym (length-words (now (a .book))), words-loaded (now (a .book)) (now (a .words)) (c .before .before .load .last .1 .0) (c .before .before .before .before .before .before .pre) (c .before .before .load .ensures))
+
+pub load-words-spec : {M : Type 1} → statement M
+load-words-spec =
+    tie.close
+    (tie.spec slice-relend-prefix-load slice-aggregate-load load-requires same-length returns)
