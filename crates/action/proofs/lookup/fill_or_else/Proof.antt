@@ -1,0 +1,30 @@
+use borrow.Author.Needs.{needs}
+use Rattle.action.proofs.lookup.fill_or_else.Statement.{statement}
+use Rattle.action.proofs.lookup.fill_or_else.Tie as tie
+
+fill-requires : tie.Need-fill-requires
+fill-requires c κs = search needs
+
+difference-requires : tie.Need-difference-requires
+difference-requires c κs = search needs
+
+fill-requires-2 : tie.Need-fill-requires-2
+fill-requires-2 c κs = search needs
+
+union-requires : tie.Need-union-requires
+union-requires c κs = search needs
+
+same-length : tie.Need-same-length
+same-length c = search needs
+
+returns : tie.Need-returns
+returns c =
+    let found = c .before .before .before .before .before .before .before .before .fill .ensures in
+    let missed = c .before .before .before .before .before .difference .ensures in
+    let served = c .before .before .before .fill2 .ensures in
+    (rw (c .union .ensures, served .0, missed, found .0), rw (served .1, missed, found .0, found .1))
+
+pub fill-or-else-spec : {M : Type 1} → statement M
+fill-or-else-spec =
+    tie.close
+    (tie.spec fill-requires difference-requires fill-requires-2 union-requires same-length returns)

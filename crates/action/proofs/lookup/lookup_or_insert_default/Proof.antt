@@ -1,0 +1,60 @@
+use mathlib.Core.Path.{ap, _∙_}
+use denote.Ref.{now}
+use Rattle.predict.specs.Predict.{Served}
+use Rattle.action.specs.Act.{Lanes, withServed}
+use Rattle.action.specs.ActLaws.{table-stands}
+use borrow.Author.Needs.{needs}
+use Rattle.action.proofs.lookup.lookup_or_insert_default.Statement.{statement}
+use Rattle.action.proofs.lookup.lookup_or_insert_default.Tie as tie
+
+row-ask-requires : tie.Need-row-ask-requires
+row-ask-requires c κs = search needs
+
+fill-requires : tie.Need-fill-requires
+fill-requires c κs =
+    let a = c .before .before .before .before .before .before .before .args in
+    let p = c .before .before .before .before .before .before .before .pre in
+    rw (c .before .row-ask .ensures) ((table-stands (now (a .words)) (p .0) (a .table .0) (p .1), p .2), p .5)
+
+info-of-requires : tie.Need-info-of-requires
+info-of-requires c κs = search needs
+
+difference-requires : tie.Need-difference-requires
+difference-requires c κs = search needs
+
+serve-lanes-requires : tie.Need-serve-lanes-requires
+serve-lanes-requires c κs =
+    let a = c .before .before .before .before .before .before .before .before .before .before .before .before .before .before .before .args in
+    let p = c .before .before .before .before .before .before .before .before .before .before .before .before .before .before .before .pre in
+    (p .2, (p .3, rw (c .before .before .before .before .info-of .ensures) (table-stands (now (a .words)) (p .0) (a .table .0) (p .1) .few)), p .4, c .before .before .before .before .before .before .before .fill .kept .1 .1 .1 .1 .0 ∙ p .5)
+
+same-length : tie.Need-same-length
+same-length c = search needs
+
+same-length-2 : tie.Need-same-length-2
+same-length-2 c = search needs
+
+same-length-3 : tie.Need-same-length-3
+same-length-3 c = search needs
+
+returns : tie.Need-returns
+returns c =
+    let a = c .before .before .before .before .before .before .before .before .before .before .before .before .before .before .before .before .before .before .before .before .before .before .args in
+    let found = c .before .before .before .before .before .before .before .before .before .before .before .before .before .before .fill .ensures in
+    let e = c .before .before .before .before .before .before .serve-lanes .ensures in
+    let l : Lanes = record { live = a .mask .live; state = a .state; log = now (a .log); index = now (a .index); out = now (a .out) } in
+    (ap (λ (s : Served). withServed s l) (e .0 ∙ rw (c .before .before .before .before .before .before .before .before .before .before .before .info-of .ensures, c .before .before .before .before .before .before .before .before .before .before .difference .ensures, found .0, found .1, c .before .before .before .before .before .before .before .before .before .before .before .before .before .before .before .before .row-ask .ensures)), e .1)
+
+pub lookup-or-insert-default-spec : {M : Type 1} → statement M
+lookup-or-insert-default-spec =
+    tie.close
+    (tie.spec
+    row-ask-requires
+    fill-requires
+    info-of-requires
+    difference-requires
+    serve-lanes-requires
+    same-length
+    same-length-2
+    same-length-3
+    returns)

@@ -1,0 +1,65 @@
+use mathlib.Core.Path.{ap}
+use denote.Ref.{now}
+use Rattle.instr.specs.Stands.{bindsOf}
+use Rattle.instr.specs.StandsLaws.{binds-variable}
+use Rattle.action.specs.Act.{Lanes}
+use Rattle.action.specs.Run.{Running, finished, ranInstr}
+use borrow.Author.Needs.{needs}
+use Rattle.action.proofs.run_instr.Statement.{statement}
+use Rattle.action.proofs.run_instr.Tie as tie
+
+slice-aggregate-act : tie.Need-slice-aggregate-act
+slice-aggregate-act c = search needs
+
+act-requires : tie.Need-act-requires
+act-requires c κs = search needs
+
+dst-requires : tie.Need-dst-requires
+dst-requires c κs = search needs
+
+slice-aggregate-bind-column : tie.Need-slice-aggregate-bind-column
+slice-aggregate-bind-column c = search needs
+
+bind-column-requires : tie.Need-bind-column-requires
+bind-column-requires c κs =
+    let a = c .before .before .before .before .before .before .before .before .before .before .before .before .before .before .before .before .before .before .before .before .before .before .args in
+    let p = c .before .before .before .before .before .before .before .before .before .before .before .before .before .before .before .before .before .before .before .before .before .before .pre in
+    (rw (c .before .before .dst .ensures) (binds-variable (now (a .words)) (a .i) (p .1)), p .3)
+
+bind-variable-requires : tie.Need-bind-variable-requires
+bind-variable-requires c κs =
+    let a = c .before .before .before .before .before .before .before .before .before .before .before .before .before .before .before .before .before .before .before .before .before .before .before .before .before .args in
+    let p = c .before .before .before .before .before .before .before .before .before .before .before .before .before .before .before .before .before .before .before .before .before .before .before .before .before .pre in
+    rw (c .before .before .before .before .before .dst .ensures) (binds-variable (now (a .words)) (a .i) (p .1))
+
+same-length : tie.Need-same-length
+same-length c = search needs
+
+same-length-2 : tie.Need-same-length-2
+same-length-2 c = search needs
+
+same-length-3 : tie.Need-same-length-3
+same-length-3 c = search needs
+
+returns : tie.Need-returns
+unfolding ranInstr
+returns c =
+    let a = c .before .before .before .before .before .before .before .before .before .before .before .before .before .before .before .before .before .before .before .before .before .before .before .before .before .before .args in
+    let e = c .before .before .before .before .before .before .before .before .before .before .before .before .before .before .act .ensures in
+    let r : Running = record { batch = a .batch; bindings = now (a .bindings); log = now (a .log); index = now (a .index) } in
+    (rw (c .bind-variable .ensures, c .before .before .before .bind-column .ensures, c .before .before .before .before .before .before .dst .ensures) (ap (λ (l : Lanes). finished (bindsOf (a .i)) l r) (e .0)), e .1)
+
+pub run-instr-spec : {M : Type 1} → statement M
+run-instr-spec =
+    tie.close
+    (tie.spec
+    slice-aggregate-act
+    act-requires
+    dst-requires
+    slice-aggregate-bind-column
+    bind-column-requires
+    bind-variable-requires
+    same-length
+    same-length-2
+    same-length-3
+    returns)

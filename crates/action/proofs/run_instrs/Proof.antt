@@ -1,0 +1,147 @@
+use Prim.Native.Nat.{ℕ, _+_, _-_, _<_, _≤_}
+use mathlib.Core.Path.{_≡_, refl, ap, _∙_}
+use mathlib.Core.List.{List}
+use native.Mathlib.Omega.{arith}
+use lib.ListN.{length, getD}
+use denote.Ref.{now}
+use Rattle.model.specs.Basics.{iter}
+use Rattle.model.specs.Book.Contents.{firstOf, ruleCount}
+use Rattle.model.specs.Outcome.{ruleFirst}
+use Rattle.model.specs.Laws.Book.{Readable, rule-entry}
+use Rattle.model.specs.Laws.Iter.{iter-more}
+use Rattle.instr.specs.Instr.{instrAt}
+use Rattle.rules.specs.RuleLaws.{At, many, placeOf, small-here, stands-here, next-here}
+use Rattle.action.specs.Run.{Running, ranNext, ranInstrs}
+use borrow.Author.Needs.{needs}
+use Rattle.action.proofs.run_instrs.Statement.{statement}
+use Rattle.action.proofs.run_instrs.Tie as tie
+
+-- the instruction at p
+here : (w : List ℕ) (r j n p : ℕ) → Readable w → r < ruleCount w → n ≡ many w r → j < n → p ≡ placeOf w r j → At w r j p (instrAt w p)
+here w r j n p h l m b e = record { readable = h; rule = l; below = omega (arith, m, b); place = e; is = refl }
+
+abbrev Inv-loop : tie.InvT-loop
+Inv-loop words base r bindings₀ log₀ index₀ first n batch₀ p₀ j₀ bindings log index batch p j =
+    (n ≡ many words r)
+    × (j ≤ n)
+    × (p ≡ placeOf words r j)
+    × (length bindings ≡ length bindings₀)
+    × (length log ≡ length log₀)
+    × (length index ≡ length index₀)
+    × (batch .state .used ≤ length log₀)
+    × (_≡_ {A = Running} (record { batch = batch; bindings = bindings; log = log; index = index }) (iter (λ k. ranNext words (placeOf words r k)) j (record { batch = batch₀; bindings = bindings₀; log = log₀; index = index₀ })))
+
+abbrev μ-loop : tie.MeasureT-loop
+μ-loop words base r bindings₀ log₀ index₀ first n batch₀ p₀ j₀ bindings log index batch p j = n - j
+
+add-first-of : tie.Need-add-first-of Inv-loop μ-loop
+add-first-of c =
+    let a = c .before .before .before .before .args in
+    let q = c .before .before .before .before .pre in
+    omega (arith, q .1, rule-entry (now (a .words)) (q .0) (a .r) (q .2))
+
+first-of-requires : tie.Need-first-of-requires Inv-loop μ-loop
+first-of-requires c κs =
+    let a = c .before .before .before .before .args in
+    let q = c .before .before .before .before .pre in
+    omega (arith, q .1, rule-entry (now (a .words)) (q .0) (a .r) (q .2))
+
+add-word : tie.Need-add-word Inv-loop μ-loop
+add-word c = search needs
+
+word-requires : tie.Need-word-requires Inv-loop μ-loop
+word-requires c κs = search needs
+
+size-requires : tie.Need-size-requires Inv-loop μ-loop
+size-requires c κs = search needs
+
+add-p : tie.Need-add-p Inv-loop μ-loop
+add-p c = search needs
+
+loop-holds : tie.Need-loop-holds Inv-loop μ-loop
+loop-holds c =
+    let a = c .before .before .before .before .before .before .before .args in
+    let q = c .before .before .before .before .before .before .before .pre in
+    let w = now (a .words) in
+    let f : c .before .before .first-of .result ≡ ruleFirst w (a .r) = c .before .before .first-of .ensures .0 ∙ ap (λ (b : ℕ). firstOf w (b + a .r)) (q .1) in
+    (c .size .ensures .0 ∙ c .before .word .ensures ∙ ap (λ (x : ℕ). getD w (x + 1) 0) f, search needs, ap (λ (x : ℕ). x + 2) f, refl, refl, refl, q .3 .used, refl)
+
+run-next-requires : tie.Need-run-next-requires Inv-loop μ-loop
+run-next-requires c κs =
+    let a = c .before .before .before .before .before .before .before .before .before .before .before .before .args in
+    let q = c .before .before .before .before .before .before .before .before .before .before .before .before .pre in
+    let l = c .before .before .before .before .loop in
+    let x = here (now (a .words)) (a .r) (l .j) _ (l .p) (q .0) (q .2) (l .inv .0) (c .before .before .before .loop-test .taken) (l .inv .2) in
+    (q .0, small-here x, stands-here x, record { used = omega (arith, l .inv .6, l .inv .4); short = omega (arith, q .3 .short, l .inv .4); slots = l .inv .5 ∙ q .3 .slots }, l .inv .3 ∙ q .4)
+
+next-requires : tie.Need-next-requires Inv-loop μ-loop
+next-requires c κs =
+    let a = c .before .before .before .before .before .before .before .before .before .before .before .before .before .before .before .before .before .before .before .args in
+    let q = c .before .before .before .before .before .before .before .before .before .before .before .before .before .before .before .before .before .before .before .pre in
+    let l = c .before .before .before .before .before .before .before .before .before .before .before .loop in
+    let x = here (now (a .words)) (a .r) (l .j) _ (l .p) (q .0) (q .2) (l .inv .0) (c .before .before .before .before .before .before .before .before .before .before .loop-test .taken) (l .inv .2) in
+    small-here x
+
+add-j : tie.Need-add-j Inv-loop μ-loop
+add-j c = search needs
+
+loop-less : tie.Need-loop-less Inv-loop μ-loop
+loop-less c = search needs
+
+loop-again : tie.Need-loop-again Inv-loop μ-loop
+loop-again c =
+    let a = c .before .before .before .before .before .before .before .before .before .before .before .before .before .before .before .before .before .before .before .before .args in
+    let q = c .before .before .before .before .before .before .before .before .before .before .before .before .before .before .before .before .before .before .before .before .pre in
+    let l = c .before .before .before .before .before .before .before .before .before .before .before .before .loop in
+    let x = here (now (a .words)) (a .r) (l .j) _ (l .p) (q .0) (q .2) (l .inv .0) (c .before .before .before .before .before .before .before .before .before .before .before .loop-test .taken) (l .inv .2) in
+    let r = c .before .before .before .before .before .before .before .run-next in
+    let k = r .kept .1 .1 .1 in (
+      l .inv .0,
+      search needs,
+      c .next .ensures ∙ next-here x,
+      k .0 ∙ l .inv .3,
+      k .1 .0 ∙ l .inv .4,
+      k .1 .1 .0 ∙ l .inv .5,
+      omega (arith, r .ensures .1, l .inv .4),
+      iter-more _ (l .j) _ _ _ (l .inv .7) (r .ensures .0 ∙ ap (λ (p : ℕ). ranNext (now (a .words)) p (record { batch = l .batch; bindings = l .bindings; log = l .log; index = l .index })) (l .inv .2)),
+    )
+
+same-length : tie.Need-same-length Inv-loop μ-loop
+same-length c = search needs
+
+same-length-2 : tie.Need-same-length-2 Inv-loop μ-loop
+same-length-2 c = search needs
+
+same-length-3 : tie.Need-same-length-3 Inv-loop μ-loop
+same-length-3 c = search needs
+
+returns : tie.Need-returns Inv-loop μ-loop
+unfolding ranInstrs
+returns c =
+    let a = c .before .before .before .before .before .before .before .before .before .args in
+    let l = c .before .loop in
+    let e : l .j ≡ many (now (a .words)) (a .r) = omega (arith, l .inv .0, l .inv .1, c .loop-test .left) in
+    (rw (c .before .before .before .before .before .before .before .before .before .pre .1, ← e) (l .inv .7), l .inv .6)
+
+pub run-instrs-spec : {M : Type 1} → statement M
+run-instrs-spec =
+    tie.close
+    (tie.spec
+    Inv-loop
+    μ-loop
+    add-first-of
+    first-of-requires
+    add-word
+    word-requires
+    size-requires
+    add-p
+    loop-holds
+    run-next-requires
+    next-requires
+    add-j
+    loop-less
+    loop-again
+    same-length
+    same-length-2
+    same-length-3
+    returns)

@@ -1,0 +1,58 @@
+use mathlib.Core.Path.{_≡_}
+use mathlib.Core.Bool.{true, false, _&&_, Bool·not-not}
+use Rattle.model.specs.Machine.Steps.{anyLive}
+use Rattle.execution.specs.Execution.{isGoing}
+use Rattle.action.specs.Run.{ranNext}
+use borrow.Author.Needs.{needs}
+use Rattle.action.proofs.run_next.Statement.{statement}
+use Rattle.action.proofs.run_next.Tie as tie
+
+going-requires : tie.Need-going-requires
+going-requires c κs = search needs
+
+is-empty-requires : tie.Need-is-empty-requires
+is-empty-requires c κs = search needs
+
+instr-at-requires : tie.Need-instr-at-requires
+instr-at-requires c κs = search needs
+
+run-instr-requires : tie.Need-run-instr-requires
+run-instr-requires c κs = let p = c .before .before .before .before .before .before .before .before .before .before .before .before .before .pre in (p .0, rw (c .before .before .before .instr-at .ensures) (p .2), p .3, p .4)
+
+same-length : tie.Need-same-length
+same-length c = search needs
+
+same-length-2 : tie.Need-same-length-2
+same-length-2 c = search needs
+
+same-length-3 : tie.Need-same-length-3
+same-length-3 c = search needs
+
+returns : tie.Need-returns
+unfolding ranNext
+returns c =
+    let a = c .before .before .before .before .before .before .before .before .before .before .before .before .before .before .before .before .before .before .before .before .args in
+    let e = c .before .before .before .before .before .before .run-instr .ensures in
+    let t : isGoing (a .batch .state) && anyLive (a .batch .mask .live) ≡ true = rw (← c .before .before .before .before .before .before .before .before .before .before .before .before .before .going .ensures, ← Bool·not-not (anyLive (a .batch .mask .live)), ← c .before .before .before .before .before .before .before .before .before .before .before .before .is-empty .ensures) (c .before .before .before .before .before .before .before .before .before .before .before .if1 .taken) in
+    (rw (t, ← c .before .before .before .before .before .before .before .before .before .before .instr-at .ensures) (e .0), e .1)
+
+returns-2 : tie.Need-returns-2
+unfolding ranNext
+returns-2 c =
+    let a = c .before .before .before .before .before .before .before .before .before .args in
+    let t : isGoing (a .batch .state) && anyLive (a .batch .mask .live) ≡ false = rw (← c .before .before .going .ensures, ← Bool·not-not (anyLive (a .batch .mask .live)), ← c .before .is-empty .ensures) (c .if1 .left) in
+    (rw t, c .before .before .before .before .before .before .before .before .before .pre .3 .used)
+
+pub run-next-spec : {M : Type 1} → statement M
+run-next-spec =
+    tie.close
+    (tie.spec
+    going-requires
+    is-empty-requires
+    instr-at-requires
+    run-instr-requires
+    same-length
+    same-length-2
+    same-length-3
+    returns
+    returns-2)

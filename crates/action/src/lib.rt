@@ -1,0 +1,353 @@
+// The interpreter: the instructions of a rule act on the lanes of a batch, one after the other.
+mod lookup;
+
+use bound::Bound;
+use execution::ExecutionState;
+use execution::Staging;
+use ids::CounterId;
+use instr::Dst;
+use instr::Instr;
+use instr::QueryEntry;
+use lanes::Ask;
+use lanes::Test;
+use mask::Mask;
+ghost use mathlib.Core.Path.{_≡_};
+ghost use Prim.Native.Nat.{_+_, _≤_, _<_};
+ghost use lib.ListN.{length, getD};
+ghost use Rattle.model.specs.Book.Contents.{firstOf, firstRule, ruleCount};
+ghost use Rattle.model.specs.Laws.Book.{Readable};
+ghost use Rattle.mask.specs.Masks.{firstLanes};
+ghost use Rattle.bound.specs.Bound.{binding};
+ghost use Rattle.instr.specs.declared.QueryEntry.the-variants.{Const};
+ghost use Rattle.instr.specs.Instr.{instrAt};
+ghost use Rattle.instr.specs.Stands.{Stands, IsVariable, variableOf};
+ghost use Rattle.lanes.specs.declared.Ask.the-variants.{Entry};
+ghost use Rattle.lanes.specs.Lanes.{asked, answeredWords};
+ghost use Rattle.predict.specs.Predict.{Ready};
+ghost use Rattle.action.specs.Act.{Lanes, acted};
+ghost use Rattle.action.specs.Run.{Running, boundTo, ranInstr, ranNext, ranInstrs};
+
+// A batch as it runs: how many lanes it has, which are live, which variables are bound, and what the run keeps.
+pub struct Batch {
+    pub lanes: usize,
+    pub mask: Mask,
+    pub bound: Bound,
+    pub state: ExecutionState,
+}
+
+// The live lanes that an instruction leaves, and what the run keeps.
+pub struct Acted {
+    pub mask: Mask,
+    pub state: ExecutionState,
+}
+
+// A counter's next in every lane, dead ones too.
+fn read_counter(
+    words: &[u32],
+    bindings: &[u32],
+    counter: CounterId,
+    state: ExecutionState,
+    out: &mut [u32],
+)
+    requires { ⌜ length (now out) ≡ 256 ⌝ }
+    ensures { λ _. ⌜ now (out .exit) ≡ answeredWords (asked (now (words .entry)) (now (bindings .entry)) (Entry (Const (getD (state .counters .next) (counter .0) 0)))) (firstLanes 256) (now (out .entry)) ⌝ }
+{
+    let counters = state.counters;
+    let next = counters.read(counter);
+    lanes::fill(
+        words,
+        bindings,
+        Ask::Entry(QueryEntry::Const(next)),
+        Mask::new(256),
+        out,
+    );
+}
+
+// The lanes' part of an instruction; its dst is left in `out`.
+fn act(
+    words: &[u32],
+    bindings: &[u32],
+    i: Instr,
+    mask: Mask,
+    state: ExecutionState,
+    log: &mut [u32],
+    index: &mut [u32],
+    out: &mut [u32],
+) -> Acted
+    requires { ⌜ Readable (now words) × Stands (now words) i × Ready state (now log) (now index) × (length (now out) ≡ 256) ⌝ }
+    ensures is { λ r. ⌜ _≡_ {A = Lanes} (record { live = r .mask .live; state = r .state; log = now (log .exit); index = now (index .exit); out = now (out .exit) }) (acted (now (words .entry)) (now (bindings .entry)) i (record { live = mask .live; state = state; log = now (log .entry); index = now (index .entry); out = now (out .entry) })) ⌝ }
+    ensures fits { λ r. ⌜ r .state .used ≤ length (now (log .entry)) ⌝ }
+{
+    match i {
+        Instr::LookupOrInsertDefault {
+            table,
+            args,
+            default,
+            dst_col,
+            ..
+        } => Acted {
+            mask,
+            state: lookup::lookup_or_insert_default(
+                words,
+                bindings,
+                table,
+                args,
+                default,
+                dst_col,
+                mask,
+                state,
+                log,
+                index,
+                out,
+            ),
+        },
+        Instr::LookupWithDefault {
+            table,
+            args,
+            dst_col,
+            default,
+            ..
+        } => Acted {
+            mask: lookup::fill_or_else(
+                words,
+                bindings,
+                lookup::row_ask(words, table, args, dst_col),
+                Ask::Entry(default),
+                mask,
+                out,
+            ),
+            state,
+        },
+        Instr::Lookup {
+            table,
+            args,
+            dst_col,
+            ..
+        } => Acted {
+            mask: lanes::fill(
+                words,
+                bindings,
+                lookup::row_ask(words, table, args, dst_col),
+                mask,
+                out,
+            ),
+            state,
+        },
+        Instr::LookupWithFallback {
+            table,
+            table_key,
+            func,
+            func_args,
+            dst_col,
+            ..
+        } => Acted {
+            mask: lookup::fill_or_else(
+                words,
+                bindings,
+                lookup::row_ask(words, table, table_key, dst_col),
+                Ask::External {
+                    func,
+                    args: func_args,
+                },
+                mask,
+                out,
+            ),
+            state,
+        },
+        Instr::Insert { table, vals } => Acted {
+            mask,
+            state: execution::stage_lanes(
+                words,
+                bindings,
+                Staging {
+                    kind: 0,
+                    table,
+                    vals,
+                },
+                mask,
+                state,
+                log,
+            ),
+        },
+        Instr::InsertIfEq { table, l, r, vals } => Acted {
+            mask,
+            state: execution::stage_lanes(
+                words,
+                bindings,
+                Staging {
+                    kind: 0,
+                    table,
+                    vals,
+                },
+                lanes::retain(words, bindings, Test::Eq(l, r), mask),
+                state,
+                log,
+            ),
+        },
+        Instr::Remove { table, args } => Acted {
+            mask,
+            state: execution::stage_lanes(
+                words,
+                bindings,
+                Staging {
+                    kind: 1,
+                    table,
+                    vals: args,
+                },
+                mask,
+                state,
+                log,
+            ),
+        },
+        Instr::External { func, args, .. } => Acted {
+            mask: lanes::fill(words, bindings, Ask::External { func, args }, mask, out),
+            state,
+        },
+        Instr::ExternalWithFallback {
+            f1,
+            args1,
+            f2,
+            args2,
+            ..
+        } => Acted {
+            mask: lookup::fill_or_else(
+                words,
+                bindings,
+                Ask::External {
+                    func: f1,
+                    args: args1,
+                },
+                Ask::External {
+                    func: f2,
+                    args: args2,
+                },
+                mask,
+                out,
+            ),
+            state,
+        },
+        Instr::AssertEq(l, r) => Acted {
+            mask: lanes::retain(words, bindings, Test::Eq(l, r), mask),
+            state,
+        },
+        Instr::AssertNe(l, r) => Acted {
+            mask: lanes::retain(words, bindings, Test::Ne(l, r), mask),
+            state,
+        },
+        Instr::AssertAnyNe { ops, divider } => Acted {
+            mask: lanes::retain(words, bindings, Test::AnyNe { ops, divider }, mask),
+            state,
+        },
+        Instr::ReadCounter { counter, .. } => {
+            read_counter(words, bindings, counter, state, out);
+            Acted { mask, state }
+        }
+    }
+}
+
+// dst takes the first `lanes` words of `out`.
+fn bind_column(dst: Dst, lanes: usize, out: &[u32], bindings: &mut [u32])
+    requires { ⌜ IsVariable (variableOf dst) × (length (now bindings) ≡ 8192) ⌝ }
+    ensures { λ _. ⌜ now (bindings .exit) ≡ boundTo (variableOf dst) lanes (now (out .entry)) (now (bindings .entry)) ⌝ }
+{
+    match dst {
+        Dst::Var(v) => bindings::bind(bindings, v, out, lanes),
+        Dst::Nothing => {}
+    }
+}
+
+fn bind_variable(dst: Dst, bound: Bound) -> Bound
+    requires { ⌜ IsVariable (variableOf dst) ⌝ }
+    ensures { λ r. ⌜ r ≡ binding (variableOf dst) bound ⌝ }
+{
+    match dst {
+        Dst::Var(v) => bound.bind(v),
+        Dst::Nothing => bound,
+    }
+}
+
+// One instruction: its lanes' part, and its dst bound.
+fn run_instr(
+    words: &[u32],
+    i: Instr,
+    batch: Batch,
+    bindings: &mut [u32],
+    log: &mut [u32],
+    index: &mut [u32],
+) -> Batch
+    requires { ⌜ Readable (now words) × Stands (now words) i × Ready (batch .state) (now log) (now index) × (length (now bindings) ≡ 8192) ⌝ }
+    ensures is { λ r. ⌜ _≡_ {A = Running} (record { batch = r; bindings = now (bindings .exit); log = now (log .exit); index = now (index .exit) }) (ranInstr (now (words .entry)) i (record { batch = batch; bindings = now (bindings .entry); log = now (log .entry); index = now (index .entry) })) ⌝ }
+    ensures fits { λ r. ⌜ r .state .used ≤ length (now (log .entry)) ⌝ }
+{
+    let lanes = batch.lanes;
+    let mask = batch.mask;
+    let bound = batch.bound;
+    let state = batch.state;
+    let mut out = [4294967295u32; 256];
+    let acted = act(words, bindings, i, mask, state, log, index, &mut out);
+    let left = acted.mask;
+    let after = acted.state;
+    let dst = i.dst();
+    bind_column(dst, lanes, &out, bindings);
+    Batch {
+        lanes,
+        mask: left,
+        bound: bind_variable(dst, bound),
+        state: after,
+    }
+}
+
+// The instruction whose opcode stands at p, if a lane is live and the run goes on.
+fn run_next(
+    words: &[u32],
+    p: usize,
+    batch: Batch,
+    bindings: &mut [u32],
+    log: &mut [u32],
+    index: &mut [u32],
+) -> Batch
+    requires { ⌜ Readable (now words) × (p ≤ 16384) × Stands (now words) (instrAt (now words) p) × Ready (batch .state) (now log) (now index) × (length (now bindings) ≡ 8192) ⌝ }
+    ensures is { λ r. ⌜ _≡_ {A = Running} (record { batch = r; bindings = now (bindings .exit); log = now (log .exit); index = now (index .exit) }) (ranNext (now (words .entry)) p (record { batch = batch; bindings = now (bindings .entry); log = now (log .entry); index = now (index .entry) })) ⌝ }
+    ensures fits { λ r. ⌜ r .state .used ≤ length (now (log .entry)) ⌝ }
+{
+    let state = batch.state;
+    let mask = batch.mask;
+    if state.going() & !mask.is_empty() {
+        return run_instr(
+            words,
+            instr::instr_at(words, p),
+            batch,
+            bindings,
+            log,
+            index,
+        );
+    }
+    batch
+}
+
+// The instructions of rule r, in order. The rules' first entry in the contents is `base`.
+pub fn run_instrs(
+    words: &[u32],
+    base: usize,
+    r: usize,
+    start: Batch,
+    bindings: &mut [u32],
+    log: &mut [u32],
+    index: &mut [u32],
+) -> Batch
+    requires { ⌜ Readable (now words) × (base ≡ firstRule (now words)) × (r < ruleCount (now words)) × Ready (start .state) (now log) (now index) × (length (now bindings) ≡ 8192) ⌝ }
+    ensures is { λ b. ⌜ _≡_ {A = Running} (record { batch = b; bindings = now (bindings .exit); log = now (log .exit); index = now (index .exit) }) (ranInstrs (now (words .entry)) (firstOf (now (words .entry)) (base + r)) (getD (now (words .entry)) (firstOf (now (words .entry)) (base + r) + 1) 0) (record { batch = start; bindings = now (bindings .entry); log = now (log .entry); index = now (index .entry) })) ⌝ }
+    ensures fits { λ b. ⌜ b .state .used ≤ length (now (log .entry)) ⌝ }
+{
+    let first = contents::first_of(words, base + r);
+    let n = words::size(words::word(words, first + 1));
+    let mut batch = start;
+    let mut p = first + 2;
+    let mut j = 0;
+    while j < n {
+        batch = run_next(words, p, batch, bindings, log, index);
+        p = instr::next(words, p);
+        j += 1;
+    }
+    batch
+}
