@@ -5,3 +5,5 @@ pub mod Staging
 pub mod Building
 pub mod Predicting
 pub mod Serving
+pub mod Fits
+pub mod Bodies

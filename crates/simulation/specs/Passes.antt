@@ -68,7 +68,7 @@ out-taken out h =
 
 -- ## Lane by lane
 
-length-both : (f : Bool → Bool → Bool) (a b : List Bool) → length (both f a b) ≡ 256
+pub length-both : (f : Bool → Bool → Bool) (a b : List Bool) → length (both f a b) ≡ 256
 unfolding both
 length-both f a b = length-tab (λ i. f (getD a i false) (getD b i false)) 256
 

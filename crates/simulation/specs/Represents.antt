@@ -63,6 +63,11 @@ pub data Follows (s₀ s : State) (stop : Stop) (R : Type 0) : Type 0 where
   stops : goesOn stop ≡ false → s .status ≡ statusOf stop → s .answers ≡ s₀ .answers → Follows s₀ s stop R
   goes : s .status ≡ going → stop ≡ Going → R → Follows s₀ s stop R
 
+pub follows-map : {s₀ s : State} {stop : Stop} {R Q : Type 0} → (R → Q) → Follows s₀ s stop R → Follows s₀ s stop Q
+follows-map f (sticks x) = sticks x
+follows-map f (stops x y z) = stops x y z
+follows-map f (goes x y r) = goes x y (f r)
+
 -- ## Lists
 
 values-length : (b : Bindings) (i : ℕ) (es : List QueryEntry) (ws : List ℕ) → valuesOf b i es ≡ some ws → length ws ≡ length es
