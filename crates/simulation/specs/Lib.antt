@@ -7,3 +7,4 @@ pub mod Predicting
 pub mod Serving
 pub mod Fits
 pub mod Bodies
+pub mod Batches

@@ -126,6 +126,12 @@ iter-idle f n (suc m) s h idle = either (λ l. idle m (iter f m s) (omega arith)
 pub bool-clash : true ≡ false → ⊥
 bool-clash e = let z : _≡_ {A = ℕ} 0 1 = cc in omega arith
 
+-- where the code has stopped, so has the machine
+pub not-going : (o : Stop) (t : Status) → goesOn o ≡ false → t ≡ statusOf o → isGoing t ≡ false
+not-going Going t e q = absurd (bool-clash e)
+not-going Spent t e q = rw q
+not-going Full t e q = rw q
+
 -- ## A pass over the lanes, turn by turn in both
 
 -- f is the machine's turn and g the code's; lane i has a turn where who i says so
@@ -146,11 +152,6 @@ module _ {C : Type 0} (stopOf : C → Stop) (has : State → ℕ → Bool) (f : 
 
   abbrev did : ℕ → C
   did i = iter g i c₀
-
-  not-going : (o : Stop) (t : Status) → goesOn o ≡ false → t ≡ statusOf o → isGoing t ≡ false
-  not-going Going t e q = absurd (bool-clash e)
-  not-going Spent t e q = rw q
-  not-going Full t e q = rw q
 
   mid : (i : ℕ) → i ≤ n → Follows s₀ (ran i) (stopOf (did i)) (R i (ran i) (did i))
   mid zero h = goes start on begin
