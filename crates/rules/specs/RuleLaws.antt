@@ -59,7 +59,7 @@ elem-getD [] j d x e = absurd (none-some e)
 elem-getD (y ∷ xs) zero d x e = some-inj e
 elem-getD (y ∷ xs) (suc j) d x e = elem-getD xs j d x e
 
-at-tab : {A : Type 0} (f : ℕ → A) (n j : ℕ) → j < n → getElem? (tab f n) j ≡ some (f j)
+pub at-tab : {A : Type 0} (f : ℕ → A) (n j : ℕ) → j < n → getElem? (tab f n) j ≡ some (f j)
 at-tab f n j l =
     let p = at-length (tab f n) j (omega (arith, length-tab f n)) in
     p .1 ∙ ap some (sym (elem-getD (tab f n) j (p .0) (p .0) (p .1)) ∙ getD-tab f n j (p .0) l)

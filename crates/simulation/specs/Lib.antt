@@ -8,3 +8,4 @@ pub mod Serving
 pub mod Fits
 pub mod Bodies
 pub mod Batches
+pub mod Steps

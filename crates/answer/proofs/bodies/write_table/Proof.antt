@@ -1,0 +1,146 @@
+use Rattle.answer.specs.Layout.{rowsLength}
+use Rattle.answer.specs.Runs.{put-four}
+use Rattle.model.specs.Laws.Bodies.{length-part}
+use Rattle.model.specs.Book.Decode.{part}
+use lib.ListN.{length, length-set}
+use denote.Ref.{now}
+use native.Mathlib.Omega.{arith}
+use native.Mathlib.Nat.{add-sub-cancel-left}
+use mathlib.Core.Path.{_∙_}
+use Prim.Native.Nat.{_+_, _-_, _≤_}
+use borrow.Author.Needs.{needs}
+use Rattle.answer.proofs.bodies.write_table.Statement.{statement}
+use Rattle.answer.proofs.bodies.write_table.Tie as tie
+
+-- the table's four words and its rows have room
+room : (c : tie.After-rows-length) → c .before .before .before .before .before .before .args .at + 4 + c .rows-length .result ≤ length (now (c .before .before .before .before .before .before .args .answer))
+room c =
+    let a = c .before .before .before .before .before .before .args in
+    omega (arith, c .rows-length .ensures, c .before .before .before .before .before .before .pre .3, length-part (now (a .rows)) (a .from) (rowsLength (now (a .words)) (now (a .counts)) (a .t)) (c .before .before .before .before .before .before .pre .2))
+
+first-of-requires : tie.Need-first-of-requires
+first-of-requires c κs = search needs
+
+rows-length-requires : tie.Need-rows-length-requires
+rows-length-requires c κs = search needs
+
+word-requires : tie.Need-word-requires
+word-requires c κs = search needs
+
+mul-answer : tie.Need-mul-answer
+mul-answer c = search needs
+
+slice-write-answer : tie.Need-slice-write-answer
+slice-write-answer c = omega (arith, room (c .before))
+
+add-word : tie.Need-add-word
+add-word c = search needs
+
+word-requires-2 : tie.Need-word-requires-2
+word-requires-2 c κs = search needs
+
+add-answer : tie.Need-add-answer
+add-answer c = search needs
+
+mul-answer-2 : tie.Need-mul-answer-2
+mul-answer-2 c = search needs
+
+slice-write-answer-2 : tie.Need-slice-write-answer-2
+slice-write-answer-2 c = simp length-set (omega (arith, room (c .before .before)))
+
+add-word-2 : tie.Need-add-word-2
+add-word-2 c = search needs
+
+word-requires-3 : tie.Need-word-requires-3
+word-requires-3 c κs = search needs
+
+add-answer-2 : tie.Need-add-answer-2
+add-answer-2 c = search needs
+
+mul-answer-3 : tie.Need-mul-answer-3
+mul-answer-3 c = search needs
+
+slice-write-answer-3 : tie.Need-slice-write-answer-3
+slice-write-answer-3 c = simp length-set (omega (arith, room (c .before .before .before)))
+
+word-requires-4 : tie.Need-word-requires-4
+word-requires-4 c κs = search needs
+
+add-answer-3 : tie.Need-add-answer-3
+add-answer-3 c = search needs
+
+mul-answer-4 : tie.Need-mul-answer-4
+mul-answer-4 c = search needs
+
+slice-write-answer-4 : tie.Need-slice-write-answer-4
+slice-write-answer-4 c = simp length-set (omega (arith, room (c .before .before .before .before)))
+
+add-write : tie.Need-add-write
+add-write c = search needs
+
+mul-write : tie.Need-mul-write
+mul-write c = search needs
+
+sub-write : tie.Need-sub-write
+sub-write c = search needs
+
+part-write-start : tie.Need-part-write-start
+part-write-start c = search needs
+
+part-write-end : tie.Need-part-write-end
+part-write-end c = search needs
+
+add-write-2 : tie.Need-add-write-2
+add-write-2 c = search needs
+
+write-requires : tie.Need-write-requires
+write-requires c κs =
+    let a = c .before .before .before .before .before .before .before .before .before .before .before .before .args in
+    let n = c .before .before .before .before .before .before .rows-length .result in
+    simp length-set (omega (arith, room (c .before .before .before .before .before .before), length-part (now (a .rows)) (a .from) (a .from + n - a .from) (omega (arith, c .before .before .before .before .before .before .rows-length .ensures, c .before .before .before .before .before .before .before .before .before .before .before .before .pre .2))))
+
+same-length : tie.Need-same-length
+same-length c = c .before .before .write .kept .1 .1 .0 ∙ simp length-set
+
+returns : tie.Need-returns
+returns c =
+    let a = c .before .before .before .before .before .before .before .before .before .before .before .before .before .before .before .args in
+    let w = c .before .before .write .ensures in
+    let e = add-sub-cancel-left (a .from) (rowsLength (now (a .words)) (now (a .counts)) (a .t)) in
+    let f = c .before .before .before .before .before .before .before .before .before .before .first-of .ensures .0 in (
+      w .0 ∙ rw (c .before .before .before .before .before .before .before .before .before .rows-length .ensures, e, c .before .before .before .before .before .before .before .before .word .ensures, c .before .before .before .before .before .before .before .word2 .ensures, c .before .before .before .before .before .before .word3 .ensures, c .before .before .before .before .before .word4 .ensures, f) (put-four _ _ _ _ (part (now (a .rows)) (a .from) (rowsLength (now (a .words)) (now (a .counts)) (a .t))) (now (a .answer)) (a .at)),
+      w .1 ∙ rw (c .before .before .before .before .before .before .before .before .before .rows-length .ensures, e) (omega arith),
+    )
+
+pub write-table-spec : {M : Type 1} → statement M
+write-table-spec =
+    tie.close
+    (tie.spec
+    first-of-requires
+    rows-length-requires
+    word-requires
+    mul-answer
+    slice-write-answer
+    add-word
+    word-requires-2
+    add-answer
+    mul-answer-2
+    slice-write-answer-2
+    add-word-2
+    word-requires-3
+    add-answer-2
+    mul-answer-3
+    slice-write-answer-3
+    word-requires-4
+    add-answer-3
+    mul-answer-4
+    slice-write-answer-4
+    add-write
+    mul-write
+    sub-write
+    part-write-start
+    part-write-end
+    add-write-2
+    write-requires
+    same-length
+    returns)

@@ -1,0 +1,62 @@
+use Rattle.answer.specs.LayoutLaws.{small-entry}
+use Rattle.answer.specs.Layout.{entryAt}
+use Rattle.answer.specs.Sums.{sum, sum-none, sum-turn}
+use Rattle.answer.specs.declared.entries.Entry.{Entry}
+use denote.Ref.{now}
+use native.Mathlib.Omega.{arith}
+use mathlib.Core.Path.{_≡_, sym, ap}
+use Prim.Native.Nat.{ℕ, _+_, _-_, _≤_}
+use borrow.Author.Needs.{needs}
+use Rattle.answer.proofs.entries.length_of.Statement.{statement}
+use Rattle.answer.proofs.entries.length_of.Tie as tie
+
+abbrev Inv-loop : tie.InvT-loop
+Inv-loop words counts lengths used z n s₀ i₀ s i = (i ≤ n) × (s ≡ sum (λ j. entryAt words counts lengths used z j .length) i)
+
+abbrev μ-loop : tie.MeasureT-loop
+μ-loop words counts lengths used z n s₀ i₀ s i = n - i
+
+loop-holds : tie.Need-loop-holds Inv-loop μ-loop
+loop-holds c = (search needs, sym (sum-none _))
+
+entry-of-requires : tie.Need-entry-of-requires Inv-loop μ-loop
+entry-of-requires c κs = search needs
+
+add-s : tie.Need-add-s Inv-loop μ-loop
+add-s c =
+    let a = c .before .before .before .before .before .before .before .args in
+    let l = c .before .before .before .loop in
+    omega (arith, small-entry (now (a .words)) (now (a .counts)) (now (a .lengths)) (a .used) (a .z) (c .before .before .before .before .before .before .before .pre .0) (l .i) (omega (arith, c .before .before .before .before .before .before .before .pre .1, c .before .before .loop-test .taken)), l .inv .1, ap (λ (x : Entry). x .length) (c .before .entry-of .ensures))
+
+add-i : tie.Need-add-i Inv-loop μ-loop
+add-i c = search needs
+
+loop-less : tie.Need-loop-less Inv-loop μ-loop
+loop-less c = search needs
+
+loop-again : tie.Need-loop-again Inv-loop μ-loop
+loop-again c =
+    let a = c .before .before .before .before .before .before .before .args in
+    let l = c .before .before .before .loop in
+    let f : ℕ → ℕ = λ (j : ℕ). entryAt (now (a .words)) (now (a .counts)) (now (a .lengths)) (a .used) (a .z) j .length in
+    (search needs, sum-turn f (l .i) (l .s) _ (l .inv .1) (ap (λ (x : Entry). l .s + x .length) (c .before .entry-of .ensures)))
+
+returns : tie.Need-returns Inv-loop μ-loop
+returns c =
+    let l = c .before .loop in
+    let e : l .i ≡ c .before .before .before .before .before .args .n = omega arith in
+    rw e at (l .inv .1)
+
+pub length-of-spec : {M : Type 1} → statement M
+length-of-spec =
+    tie.close
+    (tie.spec
+    Inv-loop
+    μ-loop
+    loop-holds
+    entry-of-requires
+    add-s
+    add-i
+    loop-less
+    loop-again
+    returns)

@@ -1,0 +1,131 @@
+use Rattle.answer.specs.AssembledLaws.{whole-parts, front-parts, fill-is}
+use Rattle.answer.specs.Layout.{rowsLength, tableWords, resultsOf, bodyCount}
+use Rattle.answer.specs.Runs.{runs}
+use Rattle.answer.specs.Sums.{sum}
+use lib.Seq.{length-take-le}
+use lib.ListN.{length, take, length-set}
+use denote.Ref.{now}
+use native.Mathlib.Omega.{arith}
+use mathlib.Core.Path.{_≡_, _∙_, sym, refl}
+use Prim.Native.Nat.{_+_, _*_, _≤_}
+use borrow.Author.Needs.{needs}
+use Rattle.answer.proofs.fill.Statement.{statement}
+use Rattle.answer.proofs.fill.Tie as tie
+
+-- where the parts stand, in the code's numbers
+whole : (c : tie.After-length-of) → 1 + 3 * bodyCount (c .before .before .before .before .before .before .before .before .before .args .z) + c .length-of .result + c .before .before .before .before .before .before .before .before .before .args .scratch + (1 + length (now (c .before .before .before .before .before .before .before .before .before .args .log))) ≤ length (now (c .before .before .before .before .before .before .before .before .before .args .answer))
+whole c =
+    let a = c .before .before .before .before .before .before .before .before .before .args in
+    let p = c .before .before .before .before .before .before .before .before .before .pre in
+    rw (c .length-of .ensures, whole-parts (resultsOf (now (a .words)) (now (a .counts)) (now (a .rows)) (now (a .next)) (now (a .lengths)) (take (a .scratch) (now (a .answer))) (a .changed) (now (a .log))) (a .scratch) (now (a .answer)) (p .3) (a .z) (p .0)) (p .4)
+
+front : (c : tie.After-length-of) → length (runs (λ t. tableWords (now (c .before .before .before .before .before .before .before .before .before .args .words)) (now (c .before .before .before .before .before .before .before .before .before .args .counts)) (now (c .before .before .before .before .before .before .before .before .before .args .rows)) (sum (rowsLength (now (c .before .before .before .before .before .before .before .before .before .args .words)) (now (c .before .before .before .before .before .before .before .before .before .args .counts))) t) t) (c .before .before .before .before .before .before .before .before .before .args .z .tables)) + c .before .before .before .before .before .before .before .before .before .args .z .counters ≡ c .length-of .result
+front c =
+    let a = c .before .before .before .before .before .before .before .before .before .args in
+    front-parts (resultsOf (now (a .words)) (now (a .counts)) (now (a .rows)) (now (a .next)) (now (a .lengths)) (take (a .scratch) (now (a .answer))) (a .changed) (now (a .log))) (a .scratch) (now (a .answer)) (c .before .before .before .before .before .before .before .before .before .pre .3) (a .z) (c .before .before .before .before .before .before .before .before .before .pre .0) ∙ sym (c .length-of .ensures)
+
+-- no call changes how many words are lent
+after-entries : (c : tie.After-write-entries) → length (c .write-entries .last .1 .1 .1 .1 .1 .1 .1 .0) ≡ length (now (c .before .before .before .before .before .before .before .before .before .before .before .before .before .before .before .args .answer))
+after-entries c = c .write-entries .kept .1 .1 .1 .1 .1 .1 .1 .0 ∙ simp length-set (c .before .before .before .before .shift .kept .0)
+
+after-tables : (c : tie.After-write-tables) → length (c .write-tables .last .1 .1 .1 .1 .1 .0) ≡ length (now (c .before .before .before .before .before .before .before .before .before .before .before .before .before .before .before .before .before .before .before .args .answer))
+after-tables c = c .write-tables .kept .1 .1 .1 .1 .1 .0 ∙ after-entries (c .before .before .before .before)
+
+add-n : tie.Need-add-n
+add-n c = search needs
+
+add-n-2 : tie.Need-add-n-2
+add-n-2 c = search needs
+
+add-n-3 : tie.Need-add-n-3
+add-n-3 c = search needs
+
+mul-first : tie.Need-mul-first
+mul-first c = search needs
+
+add-first : tie.Need-add-first
+add-first c = search needs
+
+add-length-of : tie.Need-add-length-of
+add-length-of c = search needs
+
+length-of-requires : tie.Need-length-of-requires
+length-of-requires c κs = search needs
+
+add-shift : tie.Need-add-shift
+add-shift c = omega (arith, whole (c .before), c .before .before .before .before .before .before .before .before .before .before .good)
+
+shift-requires : tie.Need-shift-requires
+shift-requires c κs = omega (arith, whole (c .before))
+
+cast-answer : tie.Need-cast-answer
+cast-answer c = search needs
+
+slice-write-answer : tie.Need-slice-write-answer
+slice-write-answer c = omega (arith, c .before .before .shift .kept .0, whole (c .before .before .before .before))
+
+write-entries-requires : tie.Need-write-entries-requires
+write-entries-requires c κs =
+    let s = c .before .before .before .before .before .before .before .before .before .before .before .before .before .before .pre .1 in
+    (s, omega arith, omega (arith, s .tables, s .counters, s .steps), simp length-set (omega (arith, c .before .before .before .shift .kept .0, whole (c .before .before .before .before .before))))
+
+write-tables-requires : tie.Need-write-tables-requires
+write-tables-requires c κs =
+    let a = c .before .before .before .before .before .before .before .before .before .before .before .before .before .before .before .before .before .before .args in
+    let p = c .before .before .before .before .before .before .before .before .before .before .before .before .before .before .before .before .before .before .pre in
+    let h : sum (rowsLength (now (a .words)) (now (a .counts))) (a .z .tables) ≤ length (now (a .rows)) = rw (p .0) (p .3 .rows) in
+    (p .1 .tables, p .1 .rows, h, omega (arith, front (c .before .before .before .before .before .before .before .before .before), whole (c .before .before .before .before .before .before .before .before .before), after-entries (c .before .before .before)))
+
+slice-aggregate-write : tie.Need-slice-aggregate-write
+slice-aggregate-write c = sym (length-take-le _ _ (c .before .before .before .before .before .before .before .before .before .before .before .before .before .before .before .before .before .before .before .before .before .before .pre .2))
+
+write-requires : tie.Need-write-requires
+write-requires c κs =
+    let a = c .before .before .before .before .before .before .before .before .before .before .before .before .before .before .before .before .before .before .before .before .before .before .before .args in
+    let h : length (take (a .z .counters) (now (a .next))) ≡ a .z .counters = length-take-le (a .z .counters) (now (a .next)) (c .before .before .before .before .before .before .before .before .before .before .before .before .before .before .before .before .before .before .before .before .before .before .before .pre .2) in
+    omega (arith, h, c .before .before .before .before .write-tables .ensures .1, front (c .before .before .before .before .before .before .before .before .before .before .before .before .before .before), whole (c .before .before .before .before .before .before .before .before .before .before .before .before .before .before), after-tables (c .before .before .before .before))
+
+add-write-log : tie.Need-add-write-log
+add-write-log c = omega (arith, whole (c .before .before .before .before .before .before .before .before .before .before .before .before .before .before .before .before .before), c .before .before .before .before .before .before .before .before .before .before .before .before .before .before .before .before .before .before .before .before .before .before .before .before .before .before .good)
+
+add-write-log-2 : tie.Need-add-write-log-2
+add-write-log-2 c = omega (arith, whole (c .before .before .before .before .before .before .before .before .before .before .before .before .before .before .before .before .before), c .before .before .before .before .before .before .before .before .before .before .before .before .before .before .before .before .before .before .before .before .before .before .before .before .before .before .good)
+
+write-log-requires : tie.Need-write-log-requires
+write-log-requires c κs = omega (arith, whole (c .before .before .before .before .before .before .before .before .before .before .before .before .before .before .before .before .before .before), c .before .before .before .write .kept .1 .1 .0, after-tables (c .before .before .before .before .before .before .before .before))
+
+same-length : tie.Need-same-length
+same-length c = c .before .before .write-log .kept .1 .1 .1 .0 ∙ c .before .before .before .before .before .before .write .kept .1 .1 .0 ∙ after-tables (c .before .before .before .before .before .before .before .before .before .before .before)
+
+returns : tie.Need-returns
+returns c =
+    let a = c .before .before .before .before .before .before .before .before .before .before .before .before .before .before .before .before .before .before .before .before .before .before .before .before .before .before .before .before .before .before .args in
+    let p = c .before .before .before .before .before .before .before .before .before .before .before .before .before .before .before .before .before .before .before .before .before .before .before .before .before .before .before .before .before .before .pre in
+    c .before .before .write-log .ensures
+    ∙ rw (c .before .before .before .before .before .before .write .ensures .0, c .before .before .before .before .before .before .before .before .before .before .before .write-tables .ensures .0, c .before .before .before .before .before .before .before .before .before .before .before .before .before .before .before .write-entries .ensures, c .before .before .before .before .before .before .before .before .before .before .before .before .before .before .before .before .before .before .before .shift .ensures, c .before .before .before .before .before .before .before .before .before .before .before .before .before .before .before .before .before .before .before .before .before .length-of .ensures)
+    (fill-is (resultsOf (now (a .words)) (now (a .counts)) (now (a .rows)) (now (a .next)) (now (a .lengths)) (take (a .scratch) (now (a .answer))) (a .changed) (now (a .log))) (a .scratch) (now (a .answer)) (p .3) (a .z) (p .0) refl (p .2) (p .4) (c .before .before .before .before .before .before .before .before .before .before .before .write-tables .result) (c .before .before .before .before .before .before .before .before .before .before .before .write-tables .ensures .1))
+
+pub fill-spec : {M : Type 1} → statement M
+fill-spec =
+    tie.close
+    (tie.spec
+    add-n
+    add-n-2
+    add-n-3
+    mul-first
+    add-first
+    add-length-of
+    length-of-requires
+    add-shift
+    shift-requires
+    cast-answer
+    slice-write-answer
+    write-entries-requires
+    write-tables-requires
+    slice-aggregate-write
+    write-requires
+    add-write-log
+    add-write-log-2
+    write-log-requires
+    same-length
+    returns)

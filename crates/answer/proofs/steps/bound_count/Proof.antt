@@ -1,0 +1,62 @@
+use native.Mathlib.Numerals.{add-one}
+use mathlib.Core.Path.{_∙_, _≡_}
+use Prim.Native.Nat.{ℕ, suc, _-_, _≤_}
+use mathlib.Core.Logic.{⊎-elim}
+use mathlib.Core.Bool.{Bool, false}
+use native.Mathlib.Omega.{arith}
+use lib.ListN.{getD}
+use Rattle.model.specs.Basics.{when, howMany}
+use Rattle.model.specs.Laws.Iter.{iter-more}
+use Rattle.mask.specs.MaskLaws.{howMany-le}
+use borrow.Author.Needs.{needs}
+use Rattle.answer.proofs.steps.bound_count.Statement.{statement}
+use Rattle.answer.proofs.steps.bound_count.Tie as tie
+
+abbrev Inv-loop : tie.InvT-loop
+Inv-loop bound n₀ v₀ n v = (v ≤ 32) × (n ≡ howMany (λ k. getD (bound .known) k false) v)
+
+abbrev μ-loop : tie.MeasureT-loop
+μ-loop bound n₀ v₀ n v = 32 - v
+
+loop-holds : tie.Need-loop-holds Inv-loop μ-loop
+loop-holds c = search needs
+
+element-copy-out-if1 : tie.Need-element-copy-out-if1 Inv-loop μ-loop
+element-copy-out-if1 c = search needs
+
+add-n : tie.Need-add-n Inv-loop μ-loop
+add-n c =
+    let l = c .before .before .before .loop in
+    omega (arith, howMany-le (λ (k : ℕ). getD (c .before .before .before .before .args .t1 .known) k false) (l .v))
+
+add-v : tie.Need-add-v Inv-loop μ-loop
+add-v c = search needs
+
+loop-less : tie.Need-loop-less Inv-loop μ-loop
+loop-less c = search needs
+
+loop-again : tie.Need-loop-again Inv-loop μ-loop
+loop-again c =
+    let l = c .before .before .before .loop in
+    let p : ℕ → Bool = λ (k : ℕ). getD (c .before .before .before .before .args .t1 .known) k false in
+    (search needs, iter-more (λ k. when (p k) suc) (l .v) 0 (l .n) _ (l .inv .1) (⊎-elim (λ w. rw (w .0 .taken) (w .1 ∙ rw add-one)) (λ w. rw (w .0 .left) (w .1)) (c .if1 .came)))
+
+returns : tie.Need-returns Inv-loop μ-loop
+returns c =
+    let l = c .before .loop in
+    let e : l .v ≡ 32 = omega arith in
+    rw e at (l .inv .1)
+
+pub bound-count-spec : {M : Type 1} → statement M
+bound-count-spec =
+    tie.close
+    (tie.spec
+    Inv-loop
+    μ-loop
+    loop-holds
+    element-copy-out-if1
+    add-n
+    add-v
+    loop-less
+    loop-again
+    returns)

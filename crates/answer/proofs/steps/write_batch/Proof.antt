@@ -1,0 +1,150 @@
+use native.Mathlib.Nat.{le-trans, le-add-right}
+use Rattle.answer.specs.Runs.{runs, put-three}
+use Rattle.mask.specs.Masks.{count}
+use Rattle.model.specs.Answer.{flag}
+use Rattle.model.specs.Basics.{tab, howMany}
+use Rattle.answer.specs.StepLaws.{placed-fits, placed-not, length-columns, length-batch, batch-most, count-most}
+use Rattle.answer.specs.Steps.{columnWords, batchWords}
+use Rattle.mask.specs.MaskLaws.{howMany-le}
+use lib.ListN.{length, getD, length-set}
+use denote.Ref.{now}
+use native.Mathlib.Omega.{arith}
+use mathlib.Core.Bool.{false}
+use mathlib.Core.Path.{_≡_, _∙_, sym}
+use Prim.Native.Nat.{ℕ, _+_, _*_, _≤_}
+use borrow.Author.Needs.{needs}
+use Rattle.answer.proofs.steps.write_batch.Statement.{statement}
+use Rattle.answer.proofs.steps.write_batch.Tie as tie
+
+-- the body's length, in the code's numbers
+length-is : (c : tie.After-bound-count) → 3 + c .bound-count .result * (1 + c .before .before .before .args .lanes) + c .before .before .before .args .lanes ≡ length (batchWords (c .before .before .before .args .lanes) (c .before .before .before .args .bound .known) (now (c .before .before .before .args .bindings)) (c .before .before .before .args .mask .live))
+length-is c =
+    let a = c .before .before .before .args in
+    rw (c .bound-count .ensures) (sym (length-batch (a .lanes) (a .bound .known) (now (a .bindings)) (c .before .before .before .pre .1) (c .before .before .before .pre .0) (a .mask .live)))
+
+most : (c : tie.After-bound-count) → 3 + c .bound-count .result * (1 + c .before .before .before .args .lanes) + c .before .before .before .args .lanes ≤ 8483
+most c =
+    let a = c .before .before .before .args in
+    rw (length-is c) (batch-most (a .lanes) (a .bound .known) (now (a .bindings)) (c .before .before .before .pre .1) (c .before .before .before .pre .0) (a .mask .live))
+
+-- the columns have room, and a word for each lane past them
+room : (c : tie.Else1) → c .before .before .before .before .args .at + 3 + length (runs (λ v. columnWords (now (c .before .before .before .before .args .bindings)) (c .before .before .before .before .args .lanes) (getD (c .before .before .before .before .args .bound .known) v false) v) 32) + c .before .before .before .before .args .lanes ≤ length (now (c .before .before .before .before .args .answer))
+room c =
+    let a = c .before .before .before .before .args in
+    rw (length-columns (a .lanes) (a .bound .known) (now (a .bindings)) (c .before .before .before .before .pre .1) (c .before .before .before .before .pre .0) 32 (omega arith), ← c .before .bound-count .ensures) (omega (arith, c .if1 .left))
+
+bound-count-requires : tie.Need-bound-count-requires
+bound-count-requires c κs = search needs
+
+add-end : tie.Need-add-end
+add-end c = search needs
+
+add-end-2 : tie.Need-add-end-2
+add-end-2 c = search needs
+
+mul-end : tie.Need-mul-end
+mul-end c = omega (arith, most c)
+
+add-end-3 : tie.Need-add-end-3
+add-end-3 c = omega (arith, most c)
+
+add-end-4 : tie.Need-add-end-4
+add-end-4 c = omega (arith, most c)
+
+returns : tie.Need-returns
+returns c =
+    let a = c .before .before .before .before .args in
+    (placed-not (batchWords (a .lanes) (a .bound .known) (now (a .bindings)) (a .mask .live)) (a .at) (now (a .answer)) (omega (arith, c .if1 .taken, length-is (c .before))), omega (arith, length-is (c .before)))
+
+count-requires : tie.Need-count-requires
+count-requires c κs = search needs
+
+cast-answer : tie.Need-cast-answer
+cast-answer c = omega (arith, count-most (c .before .before .before .before .before .args .mask .live) (search needs), c .count .ensures)
+
+mul-answer : tie.Need-mul-answer
+mul-answer c = search needs
+
+slice-write-answer : tie.Need-slice-write-answer
+slice-write-answer c = search needs
+
+cast-answer-2 : tie.Need-cast-answer-2
+cast-answer-2 c = search needs
+
+add-answer : tie.Need-add-answer
+add-answer c = search needs
+
+mul-answer-2 : tie.Need-mul-answer-2
+mul-answer-2 c = search needs
+
+slice-write-answer-2 : tie.Need-slice-write-answer-2
+slice-write-answer-2 c = simp length-set (omega arith)
+
+cast-answer-3 : tie.Need-cast-answer-3
+cast-answer-3 c = omega (arith, howMany-le (λ (v : ℕ). getD (c .before .before .before .before .before .args .bound .known) v false) 32, c .before .before .bound-count .ensures)
+
+add-answer-2 : tie.Need-add-answer-2
+add-answer-2 c = search needs
+
+mul-answer-3 : tie.Need-mul-answer-3
+mul-answer-3 c = search needs
+
+slice-write-answer-3 : tie.Need-slice-write-answer-3
+slice-write-answer-3 c = simp length-set (omega arith)
+
+add-write-columns : tie.Need-add-write-columns
+add-write-columns c = search needs
+
+write-columns-requires : tie.Need-write-columns-requires
+write-columns-requires c κs = (c .before .before .before .before .before .before .pre .1, c .before .before .before .before .before .before .pre .0, simp length-set (le-trans (le-add-right _ (c .before .before .before .before .before .before .args .lanes)) (room (c .before .before))))
+
+write-live-requires : tie.Need-write-live-requires
+write-live-requires c κs =
+    let a = c .before .before .before .before .before .before .before .before .before .before .args in
+    let w = c .before .before .before .write-columns in
+    let h : length (w .last .1 .1 .1 .1 .0) ≡ length (now (a .answer)) = w .kept .1 .1 .1 .1 .0 ∙ simp length-set in
+    (c .before .before .before .before .before .before .before .before .before .before .pre .1, rw (h, w .ensures .1) (room (c .before .before .before .before .before .before)))
+
+same-length : tie.Need-same-length
+same-length c = c .before .before .write-live .kept .1 .1 .1 .0 ∙ c .before .before .before .before .before .before .write-columns .kept .1 .1 .1 .1 .0 ∙ simp length-set
+
+returns-2 : tie.Need-returns-2
+unfolding batchWords
+returns-2 c =
+    let a = c .before .before .before .before .before .before .before .before .before .before .before .before .before .args in
+    let w = c .before .before .before .before .before .before .write-columns .ensures in
+    let e = length-is (c .before .before .before .before .before .before .before .before .before .before) in (
+      c .before .before .write-live .ensures
+          ∙ rw (w .0, c .before .before .before .before .before .before .before .before .count .ensures, c .before .before .before .before .before .before .before .before .before .before .bound-count .ensures) (put-three (count (a .mask .live)) (a .lanes) (howMany (λ v. getD (a .bound .known) v false) 32) (runs (λ v. columnWords (now (a .bindings)) (a .lanes) (getD (a .bound .known) v false) v) 32) (tab (λ i. flag (getD (a .mask .live) i false)) (a .lanes)) (now (a .answer)) (a .at) (c .before .before .before .before .before .before .write-columns .result) (w .1))
+          ∙ placed-fits (batchWords (a .lanes) (a .bound .known) (now (a .bindings)) (a .mask .live)) (a .at) (now (a .answer)) (omega (arith, c .before .before .before .before .before .before .before .before .before .if1 .left, e)),
+      omega (arith, e),
+    )
+
+pub write-batch-spec : {M : Type 1} → statement M
+write-batch-spec =
+    tie.close
+    (tie.spec
+    bound-count-requires
+    add-end
+    add-end-2
+    mul-end
+    add-end-3
+    add-end-4
+    returns
+    count-requires
+    cast-answer
+    mul-answer
+    slice-write-answer
+    cast-answer-2
+    add-answer
+    mul-answer-2
+    slice-write-answer-2
+    cast-answer-3
+    add-answer-2
+    mul-answer-3
+    slice-write-answer-3
+    add-write-columns
+    write-columns-requires
+    write-live-requires
+    same-length
+    returns-2)

@@ -1,0 +1,11 @@
+pub mod Runs
+pub mod Sums
+pub mod Moved
+pub mod Steps
+pub mod StepLaws
+pub mod Layout
+pub mod LayoutLaws
+pub mod BodyLaws
+pub mod AssembledLaws
+pub mod Scratch
+pub mod AnswerLaws

@@ -1,0 +1,28 @@
+-- The words of a step's body, and a body that is put into the answer if it fits.
+use Prim.Native.Nat.{ℕ, _+_, _*_}
+use mathlib.Core.Bool.{Bool, false, cond}
+use mathlib.Core.List.{List, [], _∷_, _++_}
+use lib.Dec.{leb}
+use lib.ListN.{length, getD}
+use lib.Seq.{sets}
+use Rattle.model.specs.Basics.{tab, howMany}
+use Rattle.model.specs.Book.Decode.{part}
+use Rattle.model.specs.Answer.{flag}
+use Rattle.mask.specs.Masks.{count}
+use Rattle.answer.specs.Runs.{runs}
+
+-- the words l go into b from the word `at` on, if they fit whole
+unfoldable pub placed : List ℕ → ℕ → List ℕ → List ℕ
+placed l at b = cond (leb (at + length l) (length b)) (sets b at l) b
+
+-- of a prediction: whether it made the row, and the row
+abbrev pub predictionWords : Bool → List ℕ → List ℕ
+predictionWords made row = flag made ∷ row
+
+-- variable v with its column, if it is bound; m is the memory of the bindings
+abbrev pub columnWords : List ℕ → ℕ → Bool → ℕ → List ℕ
+columnWords m lanes known v = cond known (v ∷ part m (256 * v) lanes) []
+
+-- of a batch: survivors, lane count, number of bound variables, each ascending with its column, a word for each lane
+unfoldable pub batchWords : (lanes : ℕ) (known : List Bool) (m : List ℕ) (live : List Bool) → List ℕ
+batchWords lanes known m live = count live ∷ lanes ∷ howMany (λ v. getD known v false) 32 ∷ runs (λ v. columnWords m lanes (getD known v false) v) 32 ++ tab (λ i. flag (getD live i false)) lanes

@@ -1,0 +1,122 @@
+use Prim.Native.Nat.{ℕ}
+use mathlib.Core.Path.{_≡_, ap, _∙_}
+use mathlib.Core.Bool.{Bool}
+use mathlib.Core.List.{List}
+use lib.ListN.{replicate}
+use Rattle.mask.specs.Masks.{firstLanes}
+use Rattle.steps.specs.Steps.{ranBatch}
+use native.Mathlib.Omega.{arith}
+use Rattle.steps.specs.StepsLaws.{entry-small, batch-facts, columns-within}
+use borrow.Author.Needs.{needs}
+use Rattle.steps.proofs.run_batch.Statement.{statement}
+use Rattle.steps.proofs.run_batch.Tie as tie
+
+first-of-requires : tie.Need-first-of-requires
+first-of-requires c κs =
+    let q = c .before .before .before .before .pre in
+    omega (arith, entry-small (q .0) (q .2))
+
+word-requires : tie.Need-word-requires
+word-requires c κs = search needs
+
+size-requires : tie.Need-size-requires
+size-requires c κs = search needs
+
+add-word : tie.Need-add-word
+add-word c = search needs
+
+word-requires-2 : tie.Need-word-requires-2
+word-requires-2 c κs = search needs
+
+size-requires-2 : tie.Need-size-requires-2
+size-requires-2 c κs = search needs
+
+add-word-2 : tie.Need-add-word-2
+add-word-2 c = search needs
+
+word-requires-3 : tie.Need-word-requires-3
+word-requires-3 c κs = search needs
+
+lane-count-requires : tie.Need-lane-count-requires
+lane-count-requires c κs = search needs
+
+clear-requires : tie.Need-clear-requires
+clear-requires c κs = search needs
+
+add-load : tie.Need-add-load
+add-load c = search needs
+
+load-requires : tie.Need-load-requires
+load-requires c κs =
+    let q = c .before .before .before .before .before .before .before .before .before .before .before .before .before .before .before .before .pre in
+    let first = c .before .before .before .before .before .before .before .before .before .before .before .first-of .ensures .0 in
+    let v = c .before .before .before .before .before .before .word3 .ensures in
+    let n = c .before .before .before .before .before .before .before .size2 .ensures .0 ∙ c .before .before .before .before .before .before .before .before .word2 .ensures in
+    (rw (v, n, first) (columns-within (q .0) (q .2) (q .3)), rw (v, first) (omega (arith, batch-facts (q .0) (q .2) (q .3) .columns, q .5, c .before .before .before .clear .kept)))
+
+new-requires : tie.Need-new-requires
+new-requires c κs = search needs
+
+size-requires-3 : tie.Need-size-requires-3
+size-requires-3 c κs = search needs
+
+first-requires : tie.Need-first-requires
+first-requires c κs = search needs
+
+run-instrs-requires : tie.Need-run-instrs-requires
+run-instrs-requires c κs =
+    let q = c .before .before .before .before .before .before .before .before .before .before .before .before .before .before .before .before .before .before .before .before .before .before .before .before .before .pre in
+    let first = c .before .before .before .before .before .before .before .before .before .before .before .before .before .before .before .before .before .before .before .before .first-of .ensures .0 in
+    let rule = c .before .before .before .before .before .before .before .before .before .before .before .before .before .before .before .before .before .before .size .ensures .0 ∙ c .before .before .before .before .before .before .before .before .before .before .before .before .before .before .before .before .before .before .before .word .ensures in
+    (q .0, q .1, rw (rule, first) (batch-facts (q .0) (q .2) (q .3) .rule), q .4, c .before .before .before .before .before .before .before .before .load .kept .1 .1 .1 .1 .0 ∙ c .before .before .before .before .before .before .before .before .before .before .before .before .clear .kept .0 ∙ q .5)
+
+same-length : tie.Need-same-length
+same-length c = search needs
+
+same-length-2 : tie.Need-same-length-2
+same-length-2 c = search needs
+
+same-length-3 : tie.Need-same-length-3
+same-length-3 c = search needs
+
+returns : tie.Need-returns
+unfolding ranBatch
+returns c =
+    let q = c .before .before .before .before .before .before .before .before .before .before .before .before .before .before .before .before .before .before .before .before .before .before .before .before .before .before .before .before .before .before .before .before .pre in
+    let first = c .before .before .before .before .before .before .before .before .before .before .before .before .before .before .before .before .before .before .before .before .before .before .before .before .before .before .before .first-of .ensures .0 in
+    let rule = c .before .before .before .before .before .before .before .before .before .before .before .before .before .before .before .before .before .before .before .before .before .before .before .before .before .size .ensures .0 ∙ c .before .before .before .before .before .before .before .before .before .before .before .before .before .before .before .before .before .before .before .before .before .before .before .before .before .before .word .ensures in
+    let n = c .before .before .before .before .before .before .before .before .before .before .before .before .before .before .before .before .before .before .before .before .before .before .before .size2 .ensures .0 ∙ c .before .before .before .before .before .before .before .before .before .before .before .before .before .before .before .before .before .before .before .before .before .before .before .before .word2 .ensures in
+    let v = c .before .before .before .before .before .before .before .before .before .before .before .before .before .before .before .before .before .before .before .before .before .before .word3 .ensures in
+    let lanes = c .before .before .before .before .before .before .before .before .before .before .before .before .before .before .before .before .before .before .before .before .before .lane-count .ensures in
+    let zero = c .before .before .before .before .before .before .before .before .before .before .before .before .before .before .before .before .before .before .before .clear .ensures ∙ ap (λ (n : ℕ). replicate n 0) (q .5) in
+    let columns = c .before .before .before .before .before .before .before .before .before .before .before .before .before .before .before .load .ensures in
+    let mask : c .before .before .before .before .before .before .before .before .before .before .before .before .new .result ≡ record { live = firstLanes (c .before .before .before .before .before .before .before .before .before .before .before .before .before .before .before .before .before .before .before .before .before .lane-count .result) } = ap (λ (l : List Bool). record { live = l }) (c .before .before .before .before .before .before .before .before .before .before .before .before .new .ensures) in
+    let bound = c .before .before .before .before .before .before .before .before .before .before .first .ensures in
+    let size = c .before .before .before .before .before .before .before .before .before .before .before .size3 .ensures .0 in
+    let r = c .before .before .before .before .before .before .run-instrs in
+    (r .ensures .0 ∙ rw (columns, zero, mask, bound, size, lanes, q .1, rule, v, n, first), r .ensures .1)
+
+pub run-batch-spec : {M : Type 1} → statement M
+run-batch-spec =
+    tie.close
+    (tie.spec
+    first-of-requires
+    word-requires
+    size-requires
+    add-word
+    word-requires-2
+    size-requires-2
+    add-word-2
+    word-requires-3
+    lane-count-requires
+    clear-requires
+    add-load
+    load-requires
+    new-requires
+    size-requires-3
+    first-requires
+    run-instrs-requires
+    same-length
+    same-length-2
+    same-length-3
+    returns)

@@ -1,0 +1,81 @@
+// The two kinds of step: a batch runs its rule, a prediction asks for a row.
+use action::Batch;
+use args::Args;
+use bound::Bound;
+use execution::ExecutionState;
+use ids::TableId;
+use mask::Mask;
+use predict::Prediction;
+use predict::Row;
+ghost use mathlib.Core.Path.{_≡_};
+ghost use Prim.Native.Nat.{_+_, _*_, _≤_, _<_};
+ghost use lib.ListN.{length};
+ghost use Rattle.model.specs.Book.Contents.{endOf, firstOf, firstRule, kindOf};
+ghost use Rattle.model.specs.Laws.Book.{Readable};
+ghost use Rattle.predict.specs.Predict.{Ready, Answered};
+ghost use Rattle.action.specs.Run.{Running};
+ghost use Rattle.steps.specs.Steps.{IsStep, laneCount, ranBatch, askedRow};
+
+// With no columns a batch has one lane.
+fn lane_count(v: u32, lanes: usize) -> usize
+    ensures { λ r. ⌜ r ≡ laneCount v lanes ⌝ }
+{
+    if v == 0 { 1 } else { lanes }
+}
+
+// The batch of entry i: its own columns, all lanes live, and then its rule. The rules' first entry in the contents is `base`.
+pub fn run_batch(
+    words: &[u32],
+    base: usize,
+    i: usize,
+    state: ExecutionState,
+    bindings: &mut [u32],
+    log: &mut [u32],
+    index: &mut [u32],
+) -> Batch
+    requires { ⌜ Readable (now words) × (base ≡ firstRule (now words)) × IsStep (now words) i × (kindOf (now words) i ≡ 4) × Ready state (now log) (now index) × (length (now bindings) ≡ 8192) ⌝ }
+    ensures is { λ r. ⌜ _≡_ {A = Running} (record { batch = r; bindings = now (bindings .exit); log = now (log .exit); index = now (index .exit) }) (ranBatch (now (words .entry)) (firstOf (now (words .entry)) i) state (now (log .entry)) (now (index .entry))) ⌝ }
+    ensures fits { λ r. ⌜ r .state .used ≤ length (now (log .entry)) ⌝ }
+{
+    let at = contents::first_of(words, i);
+    let rule = words::size(words::word(words, at));
+    let n = words::size(words::word(words, at + 1));
+    let v = words::word(words, at + 2);
+    let lanes = lane_count(v, n);
+    words::clear(bindings);
+    bindings::load(words, at + 3, v, n, bindings);
+    let start = Batch {
+        lanes,
+        mask: Mask::new(lanes),
+        bound: Bound::first(words::size(v)),
+        state,
+    };
+    action::run_instrs(words, base, rule, start, bindings, log, index)
+}
+
+// The prediction of entry i. Its write values are constants and counters, so what the bindings hold does not matter.
+pub fn run_prediction(
+    words: &[u32],
+    i: usize,
+    state: ExecutionState,
+    bindings: &[u32],
+    log: &mut [u32],
+    index: &mut [u32],
+) -> Prediction
+    requires { ⌜ Readable (now words) × IsStep (now words) i × (kindOf (now words) i ≡ 5) × Ready state (now log) (now index) ⌝ }
+    ensures is { λ r. ⌜ _≡_ {A = Answered} (record { prediction = r; log = now (log .exit); index = now (index .exit) }) (askedRow (now (words .entry)) (now (bindings .entry)) (firstOf (now (words .entry)) i) state (now (log .entry)) (now (index .entry))) ⌝ }
+    ensures fits { λ r. ⌜ r .state .used ≤ length (now (log .entry)) ⌝ }
+{
+    let at = contents::first_of(words, i);
+    let table = TableId(words::word(words, at));
+    let n = words::size(words::word(words, at + 1));
+    let key = args::words_at(words, at + 2, n);
+    let vals = instr::list_at(words, at + 2 + n);
+    let info = tables::info_of(words, table);
+    let row = Row {
+        table,
+        keys: info.keys,
+        vals,
+    };
+    predict::predict_val(words, bindings, info, row, key, state, log, index)
+}
