@@ -2,10 +2,10 @@ use Prim.Native.Nat.{ℕ}
 use mathlib.Core.Path.{_≡_, ap, _∙_}
 use mathlib.Core.Bool.{Bool}
 use mathlib.Core.List.{List}
+use native.Mathlib.Omega.{arith}
 use lib.ListN.{replicate}
 use Rattle.mask.specs.Masks.{firstLanes}
 use Rattle.steps.specs.Steps.{ranBatch}
-use native.Mathlib.Omega.{arith}
 use Rattle.steps.specs.StepsLaws.{entry-small, batch-facts, columns-within}
 use borrow.Author.Needs.{needs}
 use Rattle.steps.proofs.run_batch.Statement.{statement}

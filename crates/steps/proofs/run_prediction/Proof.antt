@@ -1,7 +1,7 @@
 use mathlib.Core.Path.{_∙_}
+use native.Mathlib.Omega.{arith}
 use Rattle.args.specs.Args.{wordsAt}
 use Rattle.steps.specs.Steps.{askedRow}
-use native.Mathlib.Omega.{arith}
 use Rattle.steps.specs.StepsLaws.{entry-small, body-small, prediction-facts, table-here, row-fits}
 use borrow.Author.Needs.{needs}
 use Rattle.steps.proofs.run_prediction.Statement.{statement}
@@ -68,7 +68,6 @@ same-length-2 c = search needs
 returns : tie.Need-returns
 unfolding askedRow
 returns c =
-    let q = c .before .before .before .before .before .before .before .before .before .before .before .before .before .before .before .before .before .before .pre in
     let first = c .before .before .before .before .before .before .before .before .before .before .before .before .before .first-of .ensures .0 in
     let n = c .before .before .before .before .before .before .before .before .before .before .size .ensures .0 ∙ c .before .before .before .before .before .before .before .before .before .before .before .word2 .ensures in
     let info = c .before .before .before .before .before .before .before .info-of .ensures in
