@@ -9,3 +9,5 @@ pub mod Fits
 pub mod Bodies
 pub mod Batches
 pub mod Steps
+pub mod Runs
+pub mod Ends

@@ -148,7 +148,7 @@ module _ (w : List ℕ) (h : Readable w) (L : ℕ) (short : L ≤ 16384) where
       all-fit : (j : ℕ) → j < many → Fits w (code.instrAt w (instrPlace w (ruleOf w at) j))
       all-fit j l = fits w h (endOf w (firstRule w + getD w at 0)) (instrPlace w (ruleOf w at) j) (small-here (instr-here j l)) (rule-read w (h .contents) (h .bodies) (getD w at 0) (words .rule) .1 .instrs j l)
 
-      abbrev last : State
+      abbrev pub last : State
       last = instructions (machine w L) k rule many s₀
 
       abbrev r : Running
