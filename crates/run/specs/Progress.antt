@@ -26,7 +26,7 @@ pub record Ran : Type 0 where
   pub index : List ℕ
   pub answer : List ℕ
 
--- no more than 64 steps have answered, of 8483 words each at most
+-- fewer than 64 steps have answered, of 8483 words each at most
 pub record Early (p : Progress) : Type 0 where
   pub done : p .done < 64
   pub at : p .at ≤ 8483 * 64

@@ -1,5 +1,16 @@
 // The steps of a book, one after the other. Each step's body goes to the front of the answer's words, past those of the steps before it.
 use execution::ExecutionState;
+use ids::TableId;
+use tables::Place;
+ghost use mathlib.Core.Path.{_≡_};
+ghost use Prim.Native.Nat.{_+_, _-_, _≤_, _<_};
+ghost use lib.Dec.{leb};
+ghost use lib.ListN.{length};
+ghost use Rattle.model.specs.Book.Contents.{firstOf, firstRule, firstStep, kindOf, stepCount};
+ghost use Rattle.model.specs.Laws.Book.{Readable};
+ghost use Rattle.predict.specs.Predict.{Ready};
+ghost use Rattle.steps.specs.Steps.{IsStep};
+ghost use Rattle.run.specs.Progress.{Ran, Early, standsIn, advanced, halted, batchStep, predictionStep, ranNext, ranSteps};
 
 // What the run keeps, how many steps have answered, how many words their bodies have in all, and each.
 pub struct Progress {
@@ -7,4 +18,164 @@ pub struct Progress {
     pub done: usize,
     pub at: usize,
     pub lengths: [u32; 64],
+}
+
+// Whether `width` words from p on are among n.
+fn within(p: usize, width: usize, n: usize) -> bool
+    ensures { λ r. ⌜ r ≡ leb (p + width) n ⌝ }
+{
+    if p <= n { width <= n - p } else { false }
+}
+
+// Whether a row stands in the table's words or in the log's.
+fn stands_in(words: &[u32], log: &[u32], width: usize, place: Place) -> bool
+    ensures { λ r. ⌜ r ≡ standsIn (now (words .entry)) (now (log .entry)) width place ⌝ }
+{
+    match place {
+        Place::InTable(p) => within(p, width, words.len()),
+        Place::InLog(p) => within(p, width, log.len()),
+    }
+}
+
+// A step has answered, and the words up to `end` are used.
+fn advance(mut p: Progress, state: ExecutionState, end: usize) -> Progress
+    requires { ⌜ (p .done < 64) × (p .at ≤ end) × (end < 4294967296) ⌝ }
+    ensures { λ r. ⌜ r ≡ advanced state end p ⌝ }
+{
+    let k = p.done;
+    let at = p.at;
+    p.lengths[k] = (end - at) as u32;
+    let lengths = p.lengths;
+    Progress {
+        state,
+        done: k + 1,
+        at: end,
+        lengths,
+    }
+}
+
+// A step has not answered.
+fn halt(p: Progress, state: ExecutionState) -> Progress
+    ensures { λ r. ⌜ r ≡ halted state p ⌝ }
+{
+    let lengths = p.lengths;
+    Progress {
+        state,
+        done: p.done,
+        at: p.at,
+        lengths,
+    }
+}
+
+// The batch of entry i, and its body.
+fn batch_step(
+    words: &[u32],
+    base: usize,
+    i: usize,
+    p: Progress,
+    bindings: &mut [u32],
+    log: &mut [u32],
+    index: &mut [u32],
+    answer: &mut [u32],
+) -> Progress
+    requires { ⌜ Readable (now words) × (base ≡ firstRule (now words)) × IsStep (now words) i × (kindOf (now words) i ≡ 4) × Early p × Ready (p .state) (now log) (now index) × (length (now bindings) ≡ 8192) ⌝ }
+    ensures is { λ r. ⌜ _≡_ {A = Ran} (record { progress = r; bindings = now (bindings .exit); log = now (log .exit); index = now (index .exit); answer = now (answer .exit) }) (batchStep (now (words .entry)) i (record { progress = p; bindings = now (bindings .entry); log = now (log .entry); index = now (index .entry); answer = now (answer .entry) })) ⌝ }
+    ensures fits { λ r. ⌜ (r .state .used ≤ length (now (log .entry))) × (r .done ≤ p .done + 1) × (r .at ≤ p .at + 8483) ⌝ }
+{
+    let before = p.state;
+    let batch = steps::run_batch(words, base, i, before, bindings, log, index);
+    let state = batch.state;
+    if state.going() {
+        let bound = batch.bound;
+        let mask = batch.mask;
+        let end = answer::steps::write_batch(bindings, bound, mask, batch.lanes, p.at, answer);
+        return advance(p, state, end);
+    }
+    halt(p, state)
+}
+
+// The prediction of entry i, and its body.
+fn prediction_step(
+    words: &[u32],
+    i: usize,
+    p: Progress,
+    bindings: &[u32],
+    log: &mut [u32],
+    index: &mut [u32],
+    answer: &mut [u32],
+) -> Progress
+    requires { ⌜ Readable (now words) × IsStep (now words) i × (kindOf (now words) i ≡ 5) × Early p × Ready (p .state) (now log) (now index) ⌝ }
+    ensures is { λ r. ⌜ _≡_ {A = Ran} (record { progress = r; bindings = now (bindings .entry); log = now (log .exit); index = now (index .exit); answer = now (answer .exit) }) (predictionStep (now (words .entry)) i (record { progress = p; bindings = now (bindings .entry); log = now (log .entry); index = now (index .entry); answer = now (answer .entry) })) ⌝ }
+    ensures fits { λ r. ⌜ (r .state .used ≤ length (now (log .entry))) × (r .done ≤ p .done + 1) × (r .at ≤ p .at + 8483) ⌝ }
+{
+    let before = p.state;
+    let row = steps::run_prediction(words, i, before, bindings, log, index);
+    let state = row.state;
+    let place = row.place;
+    let table = TableId(words::word(words, contents::first_of(words, i)));
+    let info = tables::info_of(words, table);
+    if state.going() & stands_in(words, log, info.width, place) {
+        let end = answer::steps::write_prediction(
+            words,
+            log,
+            place,
+            info.width,
+            row.made,
+            p.at,
+            answer,
+        );
+        return advance(p, state, end);
+    }
+    halt(p, state)
+}
+
+// The next step, if the run goes on. The rules' first entry in the contents is `base`, the steps' first is `first`.
+fn run_next(
+    words: &[u32],
+    base: usize,
+    first: usize,
+    p: Progress,
+    bindings: &mut [u32],
+    log: &mut [u32],
+    index: &mut [u32],
+    answer: &mut [u32],
+) -> Progress
+    requires { ⌜ Readable (now words) × (base ≡ firstRule (now words)) × (first ≡ firstStep (now words)) × (p .done < stepCount (now words)) × Early p × Ready (p .state) (now log) (now index) × (length (now bindings) ≡ 8192) ⌝ }
+    ensures is { λ r. ⌜ _≡_ {A = Ran} (record { progress = r; bindings = now (bindings .exit); log = now (log .exit); index = now (index .exit); answer = now (answer .exit) }) (ranNext (now (words .entry)) (record { progress = p; bindings = now (bindings .entry); log = now (log .entry); index = now (index .entry); answer = now (answer .entry) })) ⌝ }
+    ensures fits { λ r. ⌜ (r .state .used ≤ length (now (log .entry))) × (r .done ≤ p .done + 1) × (r .at ≤ p .at + 8483) ⌝ }
+{
+    let state = p.state;
+    if state.going() {
+        let i = first + p.done;
+        if contents::kind_of(words, i) == 4 {
+            return batch_step(words, base, i, p, bindings, log, index, answer);
+        }
+        return prediction_step(words, i, p, bindings, log, index, answer);
+    }
+    p
+}
+
+// All steps, from a fresh execution state with these counters.
+pub fn run_steps(
+    words: &[u32],
+    base: usize,
+    first: usize,
+    steps: usize,
+    start: Progress,
+    bindings: &mut [u32],
+    log: &mut [u32],
+    index: &mut [u32],
+    answer: &mut [u32],
+) -> Progress
+    requires { ⌜ Readable (now words) × (base ≡ firstRule (now words)) × (first ≡ firstStep (now words)) × (steps ≡ stepCount (now words)) × (start .done ≡ 0) × (start .at ≡ 0) × Ready (start .state) (now log) (now index) × (length (now bindings) ≡ 8192) ⌝ }
+    ensures is { λ r. ⌜ _≡_ {A = Ran} (record { progress = r; bindings = now (bindings .exit); log = now (log .exit); index = now (index .exit); answer = now (answer .exit) }) (ranSteps (now (words .entry)) steps (record { progress = start; bindings = now (bindings .entry); log = now (log .entry); index = now (index .entry); answer = now (answer .entry) })) ⌝ }
+    ensures fits { λ r. ⌜ (r .state .used ≤ length (now (log .entry))) × (r .done ≤ 64) × (r .at ≤ 1048576) ⌝ }
+{
+    let mut p = start;
+    let mut k = 0;
+    while k < steps {
+        p = run_next(words, base, first, p, bindings, log, index, answer);
+        k += 1;
+    }
+    p
 }

@@ -1,0 +1,112 @@
+use Prim.Native.Nat.{ℕ, _+_, _<_}
+use mathlib.Core.Path.{_≡_, sym, ap, _∙_}
+use mathlib.Core.List.{List}
+use native.Mathlib.Omega.{arith}
+use denote.Ref.{now}
+use Rattle.model.specs.Book.Contents.{firstStep, stepCount}
+use Rattle.model.specs.Laws.Book.{step-entry}
+use Rattle.steps.specs.Steps.{IsStep}
+use Rattle.run.specs.Progress.{Ran}
+use Rattle.run.specs.ProgressLaws.{not-batch, next-batch, next-prediction, next-stopped}
+use borrow.Author.Needs.{needs}
+use Rattle.run.proofs.run_next.Statement.{statement}
+use Rattle.run.proofs.run_next.Tie as tie
+
+-- the entry of the next step
+here : (w : List ℕ) (first k : ℕ) → first ≡ firstStep w → k < stepCount w → IsStep w (first + k)
+here w first k e l = record { number = k; below = l; entry = ap (λ (f : ℕ). f + k) e }
+
+going-requires : tie.Need-going-requires
+going-requires c κs = search needs
+
+add-i : tie.Need-add-i
+add-i c =
+    let a = c .before .before .before .before .before .before .before .before .before .args in
+    let q = c .before .before .before .before .before .before .before .before .before .pre in
+    omega (arith, q .2, step-entry (now (a .words)) (q .0) (a .p .done) (q .3))
+
+kind-of-requires : tie.Need-kind-of-requires
+kind-of-requires c κs =
+    let a = c .before .before .before .before .before .before .before .before .before .args in
+    let q = c .before .before .before .before .before .before .before .before .before .pre in
+    omega (arith, q .2, step-entry (now (a .words)) (q .0) (a .p .done) (q .3))
+
+batch-step-requires : tie.Need-batch-step-requires
+batch-step-requires c κs =
+    let a = c .before .before .before .before .before .before .before .before .before .before .before .before .before .before .before .args in
+    let q = c .before .before .before .before .before .before .before .before .before .before .before .before .before .before .before .pre in
+    (q .0, q .1, here (now (a .words)) (a .first) (a .p .done) (q .2) (q .3), sym (c .before .before .before .before .before .kind-of .ensures) ∙ c .before .before .before .before .if2 .taken, q .4, q .5, q .6)
+
+same-length : tie.Need-same-length
+same-length c = search needs
+
+same-length-2 : tie.Need-same-length-2
+same-length-2 c = search needs
+
+same-length-3 : tie.Need-same-length-3
+same-length-3 c = search needs
+
+same-length-4 : tie.Need-same-length-4
+same-length-4 c = search needs
+
+returns : tie.Need-returns
+returns c =
+    let a = c .before .before .before .before .before .before .before .before .before .before .before .before .before .before .before .before .before .before .before .before .before .before .before .before .args in
+    let q = c .before .before .before .before .before .before .before .before .before .before .before .before .before .before .before .before .before .before .before .before .before .before .before .before .pre in
+    let A : Ran = record { progress = a .p; bindings = now (a .bindings); log = now (a .log); index = now (a .index); answer = now (a .answer) } in
+    (c .before .before .before .before .before .before .before .before .batch-step .ensures .0 ∙ next-batch (now (a .words)) A (a .first + a .p .done) (sym (c .before .before .before .before .before .before .before .before .before .before .before .before .before .before .before .before .before .going .ensures) ∙ c .before .before .before .before .before .before .before .before .before .before .before .before .before .before .before .before .if1 .taken) (ap (λ (f : ℕ). f + a .p .done) (q .2)) (sym (c .before .before .before .before .before .before .before .before .before .before .before .before .before .before .kind-of .ensures) ∙ c .before .before .before .before .before .before .before .before .before .before .before .before .before .if2 .taken), c .before .before .before .before .before .before .before .before .batch-step .ensures .1)
+
+prediction-step-requires : tie.Need-prediction-step-requires
+prediction-step-requires c κs =
+    let a = c .before .before .before .before .before .before .before .before .before .before .before .before .before .before .before .args in
+    let q = c .before .before .before .before .before .before .before .before .before .before .before .before .before .before .before .pre in
+    let s = here (now (a .words)) (a .first) (a .p .done) (q .2) (q .3) in
+    (q .0, s, not-batch (q .0) s (λ e. c .before .before .before .before .if2 .left (c .before .before .before .before .before .kind-of .ensures ∙ e)), q .4, q .5)
+
+same-length-5 : tie.Need-same-length-5
+same-length-5 c = search needs
+
+same-length-6 : tie.Need-same-length-6
+same-length-6 c = search needs
+
+same-length-7 : tie.Need-same-length-7
+same-length-7 c = search needs
+
+same-length-8 : tie.Need-same-length-8
+same-length-8 c = search needs
+
+returns-2 : tie.Need-returns-2
+returns-2 c =
+    let a = c .before .before .before .before .before .before .before .before .before .before .before .before .before .before .before .before .before .before .before .before .before .before .args in
+    let q = c .before .before .before .before .before .before .before .before .before .before .before .before .before .before .before .before .before .before .before .before .before .before .pre in
+    let s = here (now (a .words)) (a .first) (a .p .done) (q .2) (q .3) in
+    let A : Ran = record { progress = a .p; bindings = now (a .bindings); log = now (a .log); index = now (a .index); answer = now (a .answer) } in
+    (c .before .before .before .before .before .before .prediction-step .ensures .0 ∙ next-prediction (now (a .words)) A (a .first + a .p .done) (sym (c .before .before .before .before .before .before .before .before .before .before .before .before .before .before .before .going .ensures) ∙ c .before .before .before .before .before .before .before .before .before .before .before .before .before .before .if1 .taken) (ap (λ (f : ℕ). f + a .p .done) (q .2)) (not-batch (q .0) s (λ e. c .before .before .before .before .before .before .before .before .before .before .before .if2 .left (c .before .before .before .before .before .before .before .before .before .before .before .before .kind-of .ensures ∙ e))), c .before .before .before .before .before .before .prediction-step .ensures .1)
+
+returns-3 : tie.Need-returns-3
+returns-3 c =
+    let a = c .before .before .before .before .before .before .before .before .args in
+    let q = c .before .before .before .before .before .before .before .before .pre in
+    let A : Ran = record { progress = a .p; bindings = now (a .bindings); log = now (a .log); index = now (a .index); answer = now (a .answer) } in
+    (next-stopped (now (a .words)) A (sym (c .before .going .ensures) ∙ c .if1 .left), (q .5 .used, omega arith, omega arith))
+
+pub run-next-spec : {M : Type 1} → statement M
+run-next-spec =
+    tie.close
+    (tie.spec
+    going-requires
+    add-i
+    kind-of-requires
+    batch-step-requires
+    same-length
+    same-length-2
+    same-length-3
+    same-length-4
+    returns
+    prediction-step-requires
+    same-length-5
+    same-length-6
+    same-length-7
+    same-length-8
+    returns-2
+    returns-3)

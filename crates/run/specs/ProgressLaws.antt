@@ -1,0 +1,114 @@
+-- How many lanes a batch keeps, how many words a prediction's row has, and what a step leaves where it answered and where it stopped.
+use Prim.Native.Nat.{ℕ, _+_, _≤_}
+use mathlib.Core.Path.{_≡_, refl, sym, subst, _∙_}
+use mathlib.Core.Bool.{Bool, true, false, _&&_}
+use mathlib.Core.Logic.{_⊎_}
+use mathlib.Core.List.{List}
+use native.Mathlib.Omega.{arith}
+use borrow.Author.Tests.{leb-true}
+use lib.ListN.{length, getD}
+use Rattle.model.specs.Book.Contents.{firstOf, firstStep, kindOf}
+use Rattle.model.specs.Book.Decode.{instrPlace}
+use Rattle.model.specs.Laws.Book.{Readable, widthOf}
+use Rattle.model.specs.Laws.Bodies.{length-part}
+use Rattle.model.specs.Laws.Iter.{iter-keeps}
+use Rattle.model.specs.Laws.Kinds.{table-read, step-kind}
+use Rattle.model.specs.Laws.Logic.{either, when-ind}
+use Rattle.model.specs.Machine.Steps.{anyLive}
+use Rattle.tables.specs.declared.Place.{Place}
+use Rattle.tables.specs.declared.Place.the-variants.{InTable, InLog}
+use Rattle.tables.specs.Tables.{Holds, rowOf}
+use Rattle.instr.specs.Instr.{instrAt}
+use Rattle.execution.specs.declared.ExecutionState.{ExecutionState}
+use Rattle.execution.specs.Execution.{isGoing}
+use Rattle.predict.specs.Predict.{Answered}
+use Rattle.action.specs.Run as action
+use Rattle.action.specs.Run.{Running, ranInstr, ranInstrs}
+use Rattle.steps.specs.Steps.{IsStep, laneCount, startBatch, ruleOf, ranBatch}
+use Rattle.steps.specs.StepsLaws.{lane-count-most, batch-facts, prediction-facts}
+use Rattle.answer.specs.Steps.{placed}
+use Rattle.run.specs.declared.Progress.{Progress}
+use Rattle.run.specs.Progress.{Ran, halted, standsIn, told, bodyOf, batchTold, rowBody, rowTold, batchStep, predictionStep, ranNext}
+
+-- ## The lanes of a batch
+
+module _ (w : List ℕ) where
+  -- an instruction keeps the number of lanes
+  next-lanes : (p : ℕ) (r : Running) → action.ranNext w p r .batch .lanes ≡ r .batch .lanes
+  unfolding action.ranNext ranInstr
+  next-lanes p r = when-ind (λ (x : Running). x .batch .lanes ≡ r .batch .lanes) (isGoing (r .batch .state) && anyLive (r .batch .mask .live)) (ranInstr w (instrAt w p)) r (λ _. refl) refl
+
+  -- and so do the instructions of a rule
+  pub instrs-lanes : (at n : ℕ) (r : Running) → ranInstrs w at n r .batch .lanes ≡ r .batch .lanes
+  unfolding ranInstrs
+  instrs-lanes at n r = iter-keeps (λ (x : Running). x .batch .lanes ≡ r .batch .lanes) (λ j. action.ranNext w (instrPlace w at j)) n r refl (λ i a l e. next-lanes (instrPlace w at i) a ∙ e)
+
+  -- a batch ends with the lanes that its body says
+  pub batch-lanes : (at : ℕ) (x : ExecutionState) (log index : List ℕ) → ranBatch w at x log index .batch .lanes ≡ laneCount (getD w (at + 2) 0) (getD w (at + 1) 0)
+  unfolding ranBatch
+  batch-lanes at x log index = instrs-lanes (ruleOf w at) (getD w (ruleOf w at + 1) 0) (startBatch w at x log index)
+
+module _ {w : List ℕ} (h : Readable w) {i : ℕ} (s : IsStep w i) where
+  -- a batch of the book has at most 256 lanes when it ends
+  pub lanes-most : kindOf w i ≡ 4 → (x : ExecutionState) (log index : List ℕ) → ranBatch w (firstOf w i) x log index .batch .lanes ≤ 256
+  lanes-most k x log index =
+      omega (arith, batch-lanes w (firstOf w i) x log index, lane-count-most (getD w (firstOf w i + 2) 0) (getD w (firstOf w i + 1) 0) (batch-facts h s k .lanes))
+
+  -- a step that is no batch is a prediction
+  pub not-batch : (kindOf w i ≡ 4 → ⊥) → kindOf w i ≡ 5
+  not-batch n = either (λ q. absurd (n q)) (λ q. q) (subst (λ (e : ℕ). (kindOf w e ≡ 4) ⊎ (kindOf w e ≡ 5)) (sym (s .entry)) (step-kind w (h .contents) (h .bodies) (s .number) (s .below)))
+
+  -- the row of a prediction of the book has at most 16 words
+  pub width-most : kindOf w i ≡ 5 → widthOf w (getD w (firstOf w i) 0) ≤ 16
+  width-most k = let t = table-read w (h .contents) (h .bodies) (getD w (firstOf w i) 0) (prediction-facts h s k .table) .1 in omega (arith, t .keys, t .vals)
+
+-- ## The words of a prediction's row
+
+module _ (w log : List ℕ) (width : ℕ) where
+  -- the code's test lets the row be read
+  pub stands-holds : (place : Place) → standsIn w log width place ≡ true → Holds w log width place
+  stands-holds (InTable p) e = leb-true _ _ e
+  stands-holds (InLog p) e = leb-true _ _ e
+
+  pub length-row : (place : Place) → Holds w log width place → length (rowOf w log width place) ≡ width
+  length-row (InTable p) h = length-part w p width h
+  length-row (InLog p) h = length-part log p width h
+
+-- ## A step that answered, and one that stopped
+
+module _ (r : Running) (a : Ran) where
+  pub batch-answered : (p : Progress) (answer : List ℕ) → isGoing (r .batch .state) ≡ true → p ≡ told (r .batch .state) (bodyOf r) (a .progress) → answer ≡ placed (bodyOf r) (a .progress .at) (a .answer)
+      → record { progress = p; bindings = r .bindings; log = r .log; index = r .index; answer = answer } ≡ batchTold r a
+  batch-answered p answer g e f = rw (g, e, f)
+
+  pub batch-stopped : (p : Progress) → isGoing (r .batch .state) ≡ false → p ≡ halted (r .batch .state) (a .progress)
+      → record { progress = p; bindings = r .bindings; log = r .log; index = r .index; answer = a .answer } ≡ batchTold r a
+  batch-stopped p g e = rw (g, e)
+
+module _ (w : List ℕ) (width : ℕ) (d : Answered) (a : Ran) where
+  abbrev tells : Bool
+  tells = isGoing (d .prediction .state) && standsIn w (d .log) width (d .prediction .place)
+
+  pub row-answered : (p : Progress) (answer : List ℕ) → tells ≡ true → p ≡ told (d .prediction .state) (rowBody w width d) (a .progress) → answer ≡ placed (rowBody w width d) (a .progress .at) (a .answer)
+      → record { progress = p; bindings = a .bindings; log = d .log; index = d .index; answer = answer } ≡ rowTold w width d a
+  row-answered p answer g e f = rw (g, e, f)
+
+  pub row-stopped : (p : Progress) → tells ≡ false → p ≡ halted (d .prediction .state) (a .progress)
+      → record { progress = p; bindings = a .bindings; log = d .log; index = d .index; answer = a .answer } ≡ rowTold w width d a
+  row-stopped p g e = rw (g, e)
+
+-- ## The next step
+
+module _ (w : List ℕ) (a : Ran) where
+  module _ (i : ℕ) (g : isGoing (a .progress .state) ≡ true) (e : i ≡ firstStep w + a .progress .done) where
+    pub next-batch : kindOf w i ≡ 4 → batchStep w i a ≡ ranNext w a
+    unfolding ranNext
+    next-batch k = rw (g, ← e, k)
+
+    pub next-prediction : kindOf w i ≡ 5 → predictionStep w i a ≡ ranNext w a
+    unfolding ranNext
+    next-prediction k = rw (g, ← e, k)
+
+  pub next-stopped : isGoing (a .progress .state) ≡ false → a ≡ ranNext w a
+  unfolding ranNext
+  next-stopped g = rw g
