@@ -1,0 +1,6 @@
+pub mod Engine
+pub mod End
+pub mod EndLaws
+pub mod EngineLaws
+pub mod CounterLaws
+pub mod SettleLaws
