@@ -1,0 +1,152 @@
+//! What a run of many cases came to, and whether everything that should be tried was.
+use book::{Book, LIMIT, Step};
+
+use crate::case::{Case, Room};
+use crate::judge::Verdict;
+use crate::plain::{Coverage, Refusal};
+
+const INSTRS: [&str; 13] = [
+    "LookupOrInsertDefault",
+    "LookupWithDefault",
+    "Lookup",
+    "LookupWithFallback",
+    "Insert",
+    "InsertIfEq",
+    "Remove",
+    "External",
+    "ExternalWithFallback",
+    "AssertEq",
+    "AssertNe",
+    "AssertAnyNe",
+    "ReadCounter",
+];
+const MERGES: [&str; 4] = ["keep", "replace", "least", "greatest"];
+const SHAPES: [&str; 7] = [
+    "0 lanes",
+    "1 lane",
+    "256 lanes",
+    "v = 0",
+    "a prediction before a batch",
+    "a prediction after a batch",
+    "a counter near its limit",
+];
+const ROOMS: [&str; 3] = ["log", "tables", "answer"];
+
+#[derive(Default)]
+pub struct Tally {
+    books: u64,
+    accepted: u64,
+    dirty: u64,
+    pub disagreements: u64,
+    refused: [u64; 17],
+    coverage: Coverage,
+    shapes: [u64; 7],
+    exactly_full: [u64; 3],
+    one_short: [u64; 3],
+}
+
+fn add<const N: usize>(to: &mut [u64; N], from: &[u64; N]) {
+    to.iter_mut().zip(from).for_each(|(to, from)| *to += from);
+}
+
+/// Which of the shapes a book has.
+fn shapes(book: &Book) -> [bool; 7] {
+    let prediction = |step: &Step| matches!(step, Step::Prediction { .. });
+    let bare = |step: &Step| matches!(step, Step::Batch { columns, .. } if columns.is_empty());
+    let lanes = |n: u32| {
+        let so_many = |step: &Step| matches!(step, Step::Batch { lanes, .. } if *lanes == n) && !bare(step);
+        book.steps.iter().any(so_many)
+    };
+    let pair = |first: bool| book.steps.windows(2).any(|two| [&two[0], &two[1]].map(prediction) == [first, !first]);
+    let near_limit = book.counters.iter().any(|next| *next >= LIMIT - 40);
+    [lanes(0), lanes(1), lanes(256), book.steps.iter().any(bare), pair(true), pair(false), near_limit]
+}
+
+impl Tally {
+    pub fn note(&mut self, case: &Case, verdict: &Verdict) {
+        self.books += 1;
+        self.dirty += u64::from(case.dirt.is_some());
+        self.disagreements += u64::from(verdict.disagreement.is_some());
+        let rooms = [case.log, case.tables, case.answer];
+        match verdict.said {
+            Ok(_) => self.accepted += 1,
+            Err(Refusal { number, .. }) => {
+                self.refused[(number as usize).min(16)] += 1;
+                let short = |i: usize| u64::from(rooms[i] == Room::Need(-1) && number == [12, 15, 16][i]);
+                add(&mut self.one_short, &[0, 1, 2].map(short));
+            }
+        }
+        if let (Some(ran), Some(book)) = (&verdict.ran, &verdict.book) {
+            self.note_coverage(&ran.coverage);
+            add(&mut self.shapes, &shapes(book).map(u64::from));
+            let lent = [verdict.lent.log, verdict.lent.tables, verdict.lent.answer];
+            let needed = [ran.log_words, ran.row_words, ran.answer.len()];
+            add(&mut self.exactly_full, &[0, 1, 2].map(|i| u64::from(needed[i] > 0 && needed[i] == lent[i])));
+        }
+    }
+
+    fn note_coverage(&mut self, from: &Coverage) {
+        let to = &mut self.coverage;
+        add(&mut to.lanes, &from.lanes);
+        add(&mut to.hits, &from.hits);
+        add(&mut to.misses, &from.misses);
+        add(&mut to.answers, &from.answers);
+        add(&mut to.nones, &from.nones);
+        add(&mut to.merges, &from.merges);
+        to.removed += from.removed;
+        to.predicted_again += from.predicted_again;
+        to.batches_ended_early += from.batches_ended_early;
+    }
+
+    pub fn add(&mut self, other: &Tally) {
+        self.books += other.books;
+        self.accepted += other.accepted;
+        self.dirty += other.dirty;
+        self.disagreements += other.disagreements;
+        add(&mut self.refused, &other.refused);
+        add(&mut self.shapes, &other.shapes);
+        add(&mut self.exactly_full, &other.exactly_full);
+        add(&mut self.one_short, &other.one_short);
+        self.note_coverage(&other.coverage);
+    }
+
+    /// Everything that was counted, each with its name.
+    fn lines(&self) -> Vec<(&'static str, Vec<(String, u64)>)> {
+        let named = |name: &str, n: u64| (name.to_string(), n);
+        let each = |names: &[&str], counts: &[u64]| names.iter().zip(counts).map(|(name, n)| named(name, *n)).collect();
+        let c = &self.coverage;
+        let lookups = (1..=4).flat_map(|opcode| {
+            let name = INSTRS[opcode - 1];
+            [(format!("{name} found"), c.hits[opcode]), (format!("{name} missed"), c.misses[opcode])]
+        });
+        let functions = (0..8).flat_map(|f| {
+            // Least, greatest and distance always answer.
+            let none = (!matches!(f, 4 | 5 | 7)).then(|| (format!("{f} none"), c.nones[f]));
+            [(format!("{f} answered"), c.answers[f])].into_iter().chain(none)
+        });
+        let rows = ["rows removed", "predicted rows read again", "batches ended early"];
+        vec![
+            ("refused with", (1..17).map(|n| (n.to_string(), self.refused[n])).collect()),
+            ("lanes through", each(&INSTRS, &c.lanes[1..])),
+            ("lookups", lookups.collect()),
+            ("functions", functions.collect()),
+            ("merges", each(&MERGES, &c.merges)),
+            ("rows and batches", each(&rows, &[c.removed, c.predicted_again, c.batches_ended_early])),
+            ("accepted books with", each(&SHAPES, &self.shapes)),
+            ("exactly full", each(&ROOMS, &self.exactly_full)),
+            ("one word short", each(&ROOMS, &self.one_short)),
+        ]
+    }
+
+    pub fn print(&self) {
+        println!("books {}, accepted {}, dirty memory lent {}", self.books, self.accepted, self.dirty);
+        let mut unseen = Vec::new();
+        for (title, counts) in self.lines() {
+            let told: Vec<String> = counts.iter().map(|(name, n)| format!("{name}: {n}")).collect();
+            println!("{title}: {}", told.join(", "));
+            unseen.extend(counts.into_iter().filter(|(_, n)| *n == 0).map(|(name, _)| format!("{title} {name}")));
+        }
+        println!("never seen: {}", if unseen.is_empty() { "nothing".into() } else { unseen.join("; ") });
+        println!("disagreements {}", self.disagreements);
+    }
+}
