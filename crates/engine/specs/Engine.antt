@@ -1,5 +1,5 @@
 -- What the engine returns and leaves, in the terms of document 01.
-use Prim.Native.Nat.{ℕ, _-_, _≤_}
+use Prim.Native.Nat.{ℕ, _+_, _-_, _*_, _≤_, min}
 use mathlib.Core.Path.{_≡_}
 use mathlib.Core.Logic.{_≢_}
 use mathlib.Core.Bool.{Bool, _&&_}
@@ -40,6 +40,17 @@ AnswerLeft (Refused n p) size ws = ws ≡ replicate size 0
 abbrev pub keptAnswer : Outcome → List ℕ → List ℕ
 keptAnswer (Accepted n) ws = ws
 keptAnswer (Refused n p) ws = replicate (length ws) 0
+
+-- ## For other languages
+
+-- the number in the high half, 0 where the book is accepted; its place or the answer's word count in the low half
+abbrev pub packed : Outcome → ℕ
+packed (Accepted n) = min n 4294967295
+packed (Refused n p) = n * 4294967296 + min p 4294967295
+
+-- what is returned so, and left in the answer
+abbrev pub Returned : Lent → List ℕ → ℕ → List ℕ → Type 0
+Returned l book r ws = (o : Outcome) × (r ≡ packed o) × outcome.Permitted l book (outcomeOf o ws) × AnswerLeft o (l .answer) ws
 
 -- ## On the way
 

@@ -4,3 +4,4 @@ pub mod EndLaws
 pub mod EngineLaws
 pub mod CounterLaws
 pub mod SettleLaws
+pub mod CodeLaws

@@ -9,7 +9,7 @@ use rules::Verdict;
 use run::Progress;
 ghost use mathlib.Core.Path.{_≡_};
 ghost use mathlib.Core.Option.{none};
-ghost use Prim.Native.Nat.{_≤_};
+ghost use Prim.Native.Nat.{_≤_, min};
 ghost use lib.ListN.{length, replicate};
 ghost use Rattle.model.specs.Book.Words.{bytesRefusal, wordsOf};
 ghost use Rattle.model.specs.Book.Read as read;
@@ -18,7 +18,7 @@ ghost use Rattle.model.specs.Laws.Book.{Readable};
 ghost use Rattle.contents.specs.Contents.{SizesOf};
 ghost use Rattle.counter.specs.CounterLaws.{padded};
 ghost use Rattle.simulation.specs.Ends.{startProgress};
-ghost use Rattle.engine.specs.Engine.{lentOf, lengthsFit, Runnable, Concludes, Decided, outcomeOf, AnswerLeft, keptAnswer};
+ghost use Rattle.engine.specs.Engine.{lentOf, lengthsFit, Runnable, Concludes, Decided, outcomeOf, AnswerLeft, keptAnswer, packed, Returned};
 
 // Accepted, with how many words the answer has; or refused by a number of document 01's table, with a place.
 pub enum Outcome {
@@ -62,11 +62,85 @@ fn start(words: &[u32], z: Sizes) -> Progress
     }
 }
 
+// The words of a book that draws none of refusals 1 to 11: its run, the commit and the answer.
+fn run_book(
+    words: &[u32],
+    bindings: &mut [u32],
+    index: &mut [u32],
+    log: &mut [u32],
+    tables: &mut [u32],
+    answer: &mut [u32],
+) -> Outcome
+    requires { ⌜ Runnable (now words) × (now bindings ≡ replicate 8192 0) × (now index ≡ replicate 8192 0) × (now log ≡ replicate (length (now log)) 0) × (length (now log) ≤ 16384) × (length (now tables) ≤ 16384) × (now answer ≡ replicate (length (now answer)) 0) ⌝ }
+    ensures { λ r. ⌜ Concludes (now (words .entry)) (lentOf (now (bindings .entry)) (now (index .entry)) (now (log .entry)) (now (tables .entry)) (now (answer .entry))) r (now (answer .exit)) ⌝ }
+{
+    let z = contents::sizes_of(words);
+    let base = words::size(z.tables) + words::size(z.counters);
+    let first = base + words::size(z.rules);
+    let steps = words::size(z.steps);
+    let p = run::run_steps(
+        words,
+        base,
+        first,
+        steps,
+        start(words, z),
+        bindings,
+        log,
+        index,
+        answer,
+    );
+    end::conclude(words, first, words::size(z.tables), p, log, tables, answer)
+}
+
+// A book that refusal 1 passes, loaded into `words`: refusals 2 to 11, and then its run.
+fn decide_words(
+    book: &[u8],
+    words: &mut [u32],
+    bindings: &mut [u32],
+    index: &mut [u32],
+    log: &mut [u32],
+    tables: &mut [u32],
+    answer: &mut [u32],
+) -> Outcome
+    requires { ⌜ (bytesRefusal (now book) ≡ none) × (length (now words) ≡ 16384) × (now bindings ≡ replicate 8192 0) × (now index ≡ replicate 8192 0) × (now log ≡ replicate (length (now log)) 0) × (length (now log) ≤ 16384) × (length (now tables) ≤ 16384) × (now answer ≡ replicate (length (now answer)) 0) ⌝ }
+    ensures { λ r. ⌜ Decided (lentOf (now (bindings .entry)) (now (index .entry)) (now (log .entry)) (now (tables .entry)) (now (answer .entry))) (now (book .entry)) r (now (answer .exit)) ⌝ }
+{
+    let n = book::load_words(book, words);
+    match rules::first_refusal(&words[..n]) {
+        Verdict::Pass => run_book(&words[..n], bindings, index, log, tables, answer),
+        Verdict::Refused(number, place) => Outcome::Refused(number, place),
+    }
+}
+
 // Refusal 14: whether the lengths are right.
 fn lengths_fit(bindings: usize, index: usize, log: usize, tables: usize) -> bool
     ensures { λ r. ⌜ r ≡ lengthsFit bindings index log tables ⌝ }
 {
     (bindings == 8192) & (index == 8192) & (log <= 16384) & (tables <= 16384)
+}
+
+// The outcome, with the answer in its words. The words lent are zero.
+fn decide(
+    book: &[u8],
+    bindings: &mut [u32],
+    index: &mut [u32],
+    log: &mut [u32],
+    tables: &mut [u32],
+    answer: &mut [u32],
+) -> Outcome
+    requires { ⌜ (now bindings ≡ replicate (length (now bindings)) 0) × (now index ≡ replicate (length (now index)) 0) × (now log ≡ replicate (length (now log)) 0) × (now answer ≡ replicate (length (now answer)) 0) ⌝ }
+    ensures { λ r. ⌜ Decided (lentOf (now (bindings .entry)) (now (index .entry)) (now (log .entry)) (now (tables .entry)) (now (answer .entry))) (now (book .entry)) r (now (answer .exit)) ⌝ }
+{
+    if !lengths_fit(bindings.len(), index.len(), log.len(), tables.len()) {
+        return Outcome::Refused(14, 0);
+    }
+    match book::length_refusal(book) {
+        Verdict::Pass => {
+            let mut words = [0u32; 16384];
+            decide_words(book, &mut words, bindings, index, log, tables, answer)
+        }
+        Verdict::Refused(number, place) => Outcome::Refused(number, place),
+    }
 }
 
 // A refusal leaves the answer zero.
@@ -77,4 +151,68 @@ fn keep_or_clear(outcome: Outcome, answer: &mut [u32])
         Outcome::Accepted(_) => {}
         Outcome::Refused(_, _) => words::clear(answer),
     }
+}
+
+// A book is run to its end, with its answer in the words lent for it and zero past it; or it is refused, and the answer is zero. The other words lent are left zero.
+pub fn run(
+    book: &[u8],
+    bindings: &mut [u32],
+    index: &mut [u32],
+    log: &mut [u32],
+    tables: &mut [u32],
+    answer: &mut [u32],
+) -> Outcome
+    ensures outcome { λ r. ⌜ Permitted (lentOf (now (bindings .entry)) (now (index .entry)) (now (log .entry)) (now (tables .entry)) (now (answer .entry))) (now (book .entry)) (outcomeOf r (now (answer .exit))) ⌝ }
+    ensures answer { λ r. ⌜ AnswerLeft r (length (now (answer .entry))) (now (answer .exit)) ⌝ }
+    ensures bindings { λ _. ⌜ now (bindings .exit) ≡ replicate (length (now (bindings .entry))) 0 ⌝ }
+    ensures index { λ _. ⌜ now (index .exit) ≡ replicate (length (now (index .entry))) 0 ⌝ }
+    ensures log { λ _. ⌜ now (log .exit) ≡ replicate (length (now (log .entry))) 0 ⌝ }
+    ensures tables { λ _. ⌜ now (tables .exit) ≡ replicate (length (now (tables .entry))) 0 ⌝ }
+{
+    words::clear(bindings);
+    words::clear(index);
+    words::clear(log);
+    words::clear(answer);
+    let outcome = decide(book, bindings, index, log, tables, answer);
+    words::clear(bindings);
+    words::clear(index);
+    words::clear(log);
+    words::clear(tables);
+    keep_or_clear(outcome, answer);
+    outcome
+}
+
+// A number as the low half of a result. No answer and no place comes near the limit.
+fn low_half(n: usize) -> u64
+    ensures { λ r. ⌜ r ≡ min n 4294967295 ⌝ }
+{
+    if n < 4294967295 { n as u64 } else { 4294967295 }
+}
+
+fn pack(outcome: Outcome) -> u64
+    ensures { λ r. ⌜ r ≡ packed outcome ⌝ }
+{
+    match outcome {
+        Outcome::Accepted(n) => low_half(n),
+        Outcome::Refused(number, place) => (number as u64) * 4294967296 + low_half(place),
+    }
+}
+
+// The same for C and Rust: the refusal's number in the high half, 0 where the book is accepted, and its place or the answer's word count in the low half.
+#[no_mangle]
+pub extern "C" fn dispatch_run(
+    book: &[u8],
+    bindings: &mut [u32],
+    index: &mut [u32],
+    log: &mut [u32],
+    tables: &mut [u32],
+    answer: &mut [u32],
+) -> u64
+    ensures outcome { λ r. ⌜ Returned (lentOf (now (bindings .entry)) (now (index .entry)) (now (log .entry)) (now (tables .entry)) (now (answer .entry))) (now (book .entry)) r (now (answer .exit)) ⌝ }
+    ensures bindings { λ _. ⌜ now (bindings .exit) ≡ replicate (length (now (bindings .entry))) 0 ⌝ }
+    ensures index { λ _. ⌜ now (index .exit) ≡ replicate (length (now (index .entry))) 0 ⌝ }
+    ensures log { λ _. ⌜ now (log .exit) ≡ replicate (length (now (log .entry))) 0 ⌝ }
+    ensures tables { λ _. ⌜ now (tables .exit) ≡ replicate (length (now (tables .entry))) 0 ⌝ }
+{
+    pack(run(book, bindings, index, log, tables, answer))
 }

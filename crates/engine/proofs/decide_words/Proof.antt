@@ -1,0 +1,130 @@
+use Prim.Native.Nat.{ℕ}
+use mathlib.Core.Path.{sym, ap, _∙_}
+use native.Mathlib.Omega.{arith}
+use denote.Ref.{now}
+use lib.ListN.{length, length-replicate}
+use Rattle.book.specs.BookLaws.{words-some, words-most, front-within, front-is, front-count}
+use Rattle.engine.specs.Engine.{lentOf}
+use Rattle.engine.specs.CodeLaws.{fit-true, front-runnable, front-decided, front-refused}
+use borrow.Author.Needs.{needs}
+use Rattle.engine.proofs.decide_words.Statement.{statement}
+use Rattle.engine.proofs.decide_words.Tie as tie
+
+load-words-requires : tie.Need-load-words-requires
+load-words-requires c κs = omega (arith, words-most (now (c .before .before .before .before .before .before .before .before .args .book)) (c .before .before .before .before .before .before .before .before .pre .0), c .before .before .before .before .before .before .before .before .pre .1)
+
+slice-reshare-prefix-first-refusal : tie.Need-slice-reshare-prefix-first-refusal
+slice-reshare-prefix-first-refusal c =
+    let a = c .before .before .before .before .before .before .before .before .before .before .before .args in
+    let l = c .before .before .load-words in
+    front-within (now (a .book)) (now (a .words)) (l .last .1 .0) (l .result) (l .ensures .0) (l .ensures .1)
+
+slice-aggregate-first-refusal : tie.Need-slice-aggregate-first-refusal
+slice-aggregate-first-refusal c =
+    let a = c .before .before .before .before .before .before .before .before .before .before .before .before .args in
+    let l = c .before .before .before .load-words in
+    sym (front-count (now (a .book)) (now (a .words)) (l .last .1 .0) (l .result) (l .ensures .0) (l .ensures .1))
+
+first-refusal-requires : tie.Need-first-refusal-requires
+first-refusal-requires c κs =
+    let a = c .before .before .before .before .before .before .before .before .before .before .before .before .args in
+    let l = c .before .before .before .load-words in
+    let passed = c .before .before .before .before .before .before .before .before .before .before .before .before .pre .0 in
+    let e = front-count (now (a .book)) (now (a .words)) (l .last .1 .0) (l .result) (l .ensures .0) (l .ensures .1) in
+    (omega (arith, e, l .ensures .0, words-some (now (a .book)) passed), omega (arith, e, l .ensures .0, words-most (now (a .book)) passed))
+
+enum-told : tie.Need-enum-told
+enum-told c = search needs
+
+slice-reshare-prefix-run-book : tie.Need-slice-reshare-prefix-run-book
+slice-reshare-prefix-run-book c =
+    let a = c .before .before .before .before .before .before .before .before .before .before .before .before .before .before .before .args in
+    let l = c .before .before .before .before .before .before .load-words in
+    front-within (now (a .book)) (now (a .words)) (l .last .1 .0) (l .result) (l .ensures .0) (l .ensures .1)
+
+slice-aggregate-run-book : tie.Need-slice-aggregate-run-book
+slice-aggregate-run-book c =
+    let a = c .before .before .before .before .before .before .before .before .before .before .before .before .before .before .before .before .args in
+    let l = c .before .before .before .before .before .before .before .load-words in
+    sym (front-count (now (a .book)) (now (a .words)) (l .last .1 .0) (l .result) (l .ensures .0) (l .ensures .1))
+
+run-book-requires : tie.Need-run-book-requires
+run-book-requires c κs =
+    let a = c .before .before .before .before .before .before .before .before .before .before .before .before .before .before .before .before .before .before .before .before .before .args in
+    let p = c .before .before .before .before .before .before .before .before .before .before .before .before .before .before .before .before .before .before .before .before .before .pre in
+    let l = c .before .before .before .before .before .before .before .before .before .before .before .before .load-words in
+    let front = front-is (now (a .book)) (now (a .words)) (l .last .1 .0) (l .result) (l .ensures .0) (l .ensures .1) in (
+      front-runnable (now (a .book)) _ front (p .0) _ (c .before .before .before .before .before .before .before .before .first-refusal .ensures) (λ i. omega (arith, c .before .before .before .before .before .before .before .before .before .before .before .before .before .before .before .before .before .before .before .before .shared-slice-known .given i)) (c .before .before .before .before .before .before .enum-told .given .1),
+      p .2,
+      p .3,
+      p .4,
+      p .5,
+      p .6,
+      p .7,
+    )
+
+enum-known-number : tie.Need-enum-known-number
+enum-known-number c = search needs
+
+same-length : tie.Need-same-length
+same-length c = search needs
+
+same-length-2 : tie.Need-same-length-2
+same-length-2 c = search needs
+
+same-length-3 : tie.Need-same-length-3
+same-length-3 c = search needs
+
+same-length-4 : tie.Need-same-length-4
+same-length-4 c = search needs
+
+same-length-5 : tie.Need-same-length-5
+same-length-5 c = search needs
+
+same-length-6 : tie.Need-same-length-6
+same-length-6 c = search needs
+
+returns : tie.Need-returns
+returns c =
+    let a = c .before .before .before .before .before .before .before .before .before .before .before .before .before .before .before .before .before .before .before .before .before .before .before .before .before .before .before .before .before .before .before .before .args in
+    let p = c .before .before .before .before .before .before .before .before .before .before .before .before .before .before .before .before .before .before .before .before .before .before .before .before .before .before .before .before .before .before .before .before .pre in
+    let l = c .before .before .before .before .before .before .before .before .before .before .before .before .before .before .before .before .before .before .before .before .before .before .before .load-words in
+    let r = c .before .before .before .before .before .before .before .before .before .before .run-book in
+    let front = front-is (now (a .book)) (now (a .words)) (l .last .1 .0) (l .result) (l .ensures .0) (l .ensures .1) in
+    let fit = fit-true _ _ _ _ (ap length (p .2) ∙ length-replicate {A = ℕ} 8192 0, ap length (p .3) ∙ length-replicate {A = ℕ} 8192 0, p .5, p .6) in
+    front-decided (now (a .book)) _ front (p .0) _ (c .before .before .before .before .before .before .before .before .before .before .before .before .before .before .before .before .before .before .before .first-refusal .ensures) (lentOf (now (a .bindings)) (now (a .index)) (now (a .log)) (now (a .tables)) (now (a .answer))) (r .last .1 .1 .1 .1 .1 .0) fit (c .before .before .before .before .before .before .before .before .before .before .before .before .before .before .before .before .before .enum-told .given .1) (r .result) (r .ensures)
+
+same-length-7 : tie.Need-same-length-7
+same-length-7 c = search needs
+
+returns-2 : tie.Need-returns-2
+returns-2 c =
+    let a = c .before .before .before .before .before .before .before .before .before .before .before .before .before .before .before .before .args in
+    let p = c .before .before .before .before .before .before .before .before .before .before .before .before .before .before .before .before .pre in
+    let l = c .before .before .before .before .before .before .before .load-words in
+    let front = front-is (now (a .book)) (now (a .words)) (l .last .1 .0) (l .result) (l .ensures .0) (l .ensures .1) in
+    let fit = fit-true _ _ _ _ (ap length (p .2) ∙ length-replicate {A = ℕ} 8192 0, ap length (p .3) ∙ length-replicate {A = ℕ} 8192 0, p .5, p .6) in
+    front-refused (now (a .book)) _ front (p .0) _ (c .before .before .before .first-refusal .ensures) (lentOf (now (a .bindings)) (now (a .index)) (now (a .log)) (now (a .tables)) (now (a .answer))) (now (a .answer)) fit _ _ (c .before .number .given .1)
+
+pub decide-words-spec : {M : Type 1} → statement M
+decide-words-spec =
+    tie.close
+    (tie.spec
+    load-words-requires
+    slice-reshare-prefix-first-refusal
+    slice-aggregate-first-refusal
+    first-refusal-requires
+    enum-told
+    slice-reshare-prefix-run-book
+    slice-aggregate-run-book
+    run-book-requires
+    enum-known-number
+    same-length
+    same-length-2
+    same-length-3
+    same-length-4
+    same-length-5
+    same-length-6
+    returns
+    same-length-7
+    returns-2)

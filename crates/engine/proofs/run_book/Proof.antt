@@ -1,0 +1,112 @@
+use Prim.Native.Nat.{ℕ}
+use mathlib.Core.Path.{ap, _∙_}
+use native.Mathlib.Omega.{arith}
+use denote.Ref.{now}
+use lib.ListN.{length, length-replicate}
+use Rattle.model.specs.Laws.Book.{few-entries}
+use Rattle.run.specs.declared.Progress.{Progress}
+use Rattle.engine.specs.CodeLaws.{may-conclude, book-concludes}
+use borrow.Author.Needs.{needs}
+use Rattle.engine.proofs.run_book.Statement.{statement}
+use Rattle.engine.proofs.run_book.Tie as tie
+
+sizes-of-requires : tie.Need-sizes-of-requires
+sizes-of-requires c κs = few-entries (now (c .before .before .before .before .before .before .args .words)) (c .before .before .before .before .before .before .pre .0 .readable)
+
+size-requires : tie.Need-size-requires
+size-requires c κs = search needs
+
+size-requires-2 : tie.Need-size-requires-2
+size-requires-2 c κs = search needs
+
+add-base : tie.Need-add-base
+add-base c = omega (arith, c .size2 .ensures .1, c .before .size .ensures .1)
+
+size-requires-3 : tie.Need-size-requires-3
+size-requires-3 c κs = search needs
+
+add-first : tie.Need-add-first
+add-first c = omega (arith, c .size3 .ensures .1, c .before .size2 .ensures .1, c .before .before .size .ensures .1)
+
+size-requires-4 : tie.Need-size-requires-4
+size-requires-4 c κs = search needs
+
+start-requires : tie.Need-start-requires
+start-requires c κs = (c .before .before .before .before .before .before .before .before .before .before .before .pre .0 .readable, c .before .before .before .before .sizes-of .ensures)
+
+run-steps-requires : tie.Need-run-steps-requires
+run-steps-requires c κs =
+    let p = c .before .before .before .before .before .before .before .before .before .before .before .before .before .before .before .before .pre in
+    let z = c .before .before .before .before .before .before .before .before .before .sizes-of .ensures in
+    let s = c .before .before .before .before .start .ensures in (
+      p .0 .readable,
+      omega (arith, c .before .before .before .before .before .before .before .before .size .ensures .0, c .before .before .before .before .before .before .before .size2 .ensures .0, z .tables, z .counters),
+      omega (arith, c .before .before .before .before .before .before .before .before .size .ensures .0, c .before .before .before .before .before .before .before .size2 .ensures .0, c .before .before .before .before .before .before .size3 .ensures .0, z .tables, z .counters, z .rules),
+      c .before .before .before .before .before .size4 .ensures .0 ∙ z .steps,
+      ap (λ (p : Progress). p .done) s,
+      ap (λ (p : Progress). p .at) s,
+      record { used = omega (arith, ap (λ (p : Progress). p .state .used) s); short = p .4; slots = ap length (p .2) ∙ length-replicate {A = ℕ} 8192 0 },
+      ap length (p .1) ∙ length-replicate {A = ℕ} 8192 0,
+    )
+
+size-requires-5 : tie.Need-size-requires-5
+size-requires-5 c κs = search needs
+
+conclude-requires : tie.Need-conclude-requires
+conclude-requires c κs =
+    let p = c .before .before .before .before .before .before .before .before .before .before .before .before .before .before .before .before .before .before .before .before .before .before .before .before .before .before .before .before .before .pre in
+    let a = c .before .before .before .before .before .before .before .before .before .before .before .before .before .before .before .before .before .before .before .before .before .before .before .before .before .before .before .before .before .args in
+    let z = c .before .before .before .before .before .before .before .before .before .before .before .before .before .before .before .before .before .before .before .before .before .before .sizes-of .ensures in
+    let r = c .before .before .before .before .before .before .before .before .before .before .before .before .run-steps in (
+      p .0 .readable,
+      omega (arith, c .before .before .before .before .before .before .before .before .before .before .before .before .before .before .before .before .before .before .before .before .before .size .ensures .0, c .before .before .before .before .before .before .before .before .before .before .before .before .before .before .before .before .before .before .before .before .size2 .ensures .0, c .before .before .before .before .before .before .before .before .before .before .before .before .before .before .before .before .before .before .before .size3 .ensures .0, z .tables, z .counters, z .rules),
+      c .before .before .before .size5 .ensures .0 ∙ z .tables,
+      r .ensures .1 .1,
+      p .5,
+      may-conclude (now (a .words)) (p .0) (now (a .bindings)) (now (a .index)) (now (a .log)) (now (a .answer)) (p .4) (p .2) (p .3) (p .6) _ (c .before .before .before .before .before .before .before .before .before .before .before .before .before .before .before .before .before .before .size4 .ensures .0 ∙ z .steps) _ (c .before .before .before .before .before .before .before .before .before .before .before .before .before .before .before .before .before .start .ensures) _ (r .ensures .0) (r .kept .1 .1 .1 .1 .1 .1 .0) (r .ensures .1 .2) (r .ensures .1 .0),
+    )
+
+same-length : tie.Need-same-length
+same-length c = search needs
+
+same-length-2 : tie.Need-same-length-2
+same-length-2 c = search needs
+
+same-length-3 : tie.Need-same-length-3
+same-length-3 c = search needs
+
+same-length-4 : tie.Need-same-length-4
+same-length-4 c = search needs
+
+same-length-5 : tie.Need-same-length-5
+same-length-5 c = search needs
+
+returns : tie.Need-returns
+returns c =
+    let p = c .before .before .before .before .before .before .before .before .before .before .before .before .before .before .before .before .before .before .before .before .before .before .before .before .before .before .before .before .before .before .before .before .before .before .pre in
+    let a = c .before .before .before .before .before .before .before .before .before .before .before .before .before .before .before .before .before .before .before .before .before .before .before .before .before .before .before .before .before .before .before .before .before .before .args in
+    let z = c .before .before .before .before .before .before .before .before .before .before .before .before .before .before .before .before .before .before .before .before .before .before .before .before .before .before .before .sizes-of .ensures in
+    let r = c .before .before .before .before .before .before .before .before .before .before .before .before .before .before .before .before .before .run-steps in
+    book-concludes (now (a .words)) (p .0) (now (a .bindings)) (now (a .index)) (now (a .log)) (now (a .answer)) (p .4) (p .2) (p .3) (p .6) _ (c .before .before .before .before .before .before .before .before .before .before .before .before .before .before .before .before .before .before .before .before .before .before .before .size4 .ensures .0 ∙ z .steps) _ (c .before .before .before .before .before .before .before .before .before .before .before .before .before .before .before .before .before .before .before .before .before .before .start .ensures) _ (r .ensures .0) (r .kept .1 .1 .1 .1 .1 .1 .0) (r .kept .1 .1 .1 .1 .1 .1 .1 .1 .0) (now (a .tables)) (p .5) _ (c .before .before .before .before .conclude .ensures)
+
+pub run-book-spec : {M : Type 1} → statement M
+run-book-spec =
+    tie.close
+    (tie.spec
+    sizes-of-requires
+    size-requires
+    size-requires-2
+    add-base
+    size-requires-3
+    add-first
+    size-requires-4
+    start-requires
+    run-steps-requires
+    size-requires-5
+    conclude-requires
+    same-length
+    same-length-2
+    same-length-3
+    same-length-4
+    same-length-5
+    returns)
