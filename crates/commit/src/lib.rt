@@ -3,6 +3,7 @@ mod merge;
 mod records;
 mod rows;
 
+pub use records::end_of;
 ghost use mathlib.Core.Path.{_≡_};
 ghost use Prim.Native.Nat.{ℕ, _+_, _^_, _<_, _≤_};
 ghost use lib.ListN.{length};

@@ -12,7 +12,7 @@ use ids::TableId;
 use tables::TableInfo;
 
 // The word past the record at p: its kind and its table, then a key if it is a removal, else a row.
-fn end_of(words: &[u32], log: &[u32], p: usize) -> usize
+pub fn end_of(words: &[u32], log: &[u32], p: usize) -> usize
     requires { ⌜ p ≤ length (now log) ⌝ }
     ensures { λ r. ⌜ r ≡ endOf (now (words .entry)) (now (log .entry)) p ⌝ }
 {

@@ -19,26 +19,26 @@ pub data Line : Type 0 where
   counter : (number next : ℕ) → Line
   refused : (number place : ℕ) → Line
 
-abbrev stepLine : ℕ → Answer → Line
+abbrev pub stepLine : ℕ → Answer → Line
 stepLine k (survivors b live) = run k (howMany (λ i. getD live i false) (length live))
 stepLine k (predicted made words) = row k words
 
-abbrev recordLine : Record → Line
+abbrev pub recordLine : Record → Line
 recordLine r = mathlib.Core.Bool.cond (eqb (r .kind) 1) (del (r .table) (r .words)) (ins (r .table) (r .words))
 
-abbrev stepLines : ℕ → List Answer → List Line
+abbrev pub stepLines : ℕ → List Answer → List Line
 stepLines k [] = []
 stepLines k (a ∷ as′) = stepLine k a ∷ stepLines (suc k) as′
 
-abbrev recordLines : List Record → List Line
+abbrev pub recordLines : List Record → List Line
 recordLines [] = []
 recordLines (r ∷ rs) = recordLine r ∷ recordLines rs
 
-abbrev tableLines : ℕ → List Table → List Line
+abbrev pub tableLines : ℕ → List Table → List Line
 tableLines t [] = []
 tableLines t (u ∷ ts) = table t (length (u .rows)) ∷ tableLines (suc t) ts
 
-abbrev counterLines : ℕ → List Counter → List Line
+abbrev pub counterLines : ℕ → List Counter → List Line
 counterLines c [] = []
 counterLines c (n ∷ ns) = counter c (nextOf n) ∷ counterLines (suc c) ns
 

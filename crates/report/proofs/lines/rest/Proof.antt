@@ -1,0 +1,28 @@
+use denote.Ref.{now}
+use Rattle.report.specs.LinesLaws.{rest-is}
+use borrow.Author.Needs.{needs}
+use Rattle.report.proofs.lines.rest.Statement.{statement}
+use Rattle.report.proofs.lines.rest.Tie as tie
+
+least-requires : tie.Need-least-requires
+least-requires c κs = search needs
+
+mul-result : tie.Need-mul-result
+mul-result c = search needs
+
+sub-result : tie.Need-sub-result
+sub-result c = search needs
+
+part-result-start : tie.Need-part-result-start
+part-result-start c = search needs
+
+part-result-end : tie.Need-part-result-end
+part-result-end c = search needs
+
+returns : tie.Need-returns
+returns c = rw (c .before .least .ensures) (rest-is (now (c .before .before .before .args .words)))
+
+pub rest-spec : {M : Type 1} → statement M
+rest-spec =
+    tie.close
+    (tie.spec least-requires mul-result sub-result part-result-start part-result-end returns)

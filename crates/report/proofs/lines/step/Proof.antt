@@ -1,0 +1,94 @@
+use Prim.Native.Nat.{_+_}
+use mathlib.Core.Path.{refl, _∙_}
+use denote.Ref.{now}
+use borrow.Author.Tests.{ne-eqb}
+use Rattle.report.specs.Text.{lineBytes}
+use Rattle.report.specs.Lines.{entryLine}
+use Rattle.report.specs.LinesLaws.{written-none, written-one}
+use borrow.Author.Needs.{needs}
+use Rattle.report.proofs.lines.step.Statement.{statement}
+use Rattle.report.proofs.lines.step.Tie as tie
+
+mul-word : tie.Need-mul-word
+mul-word c = search needs
+
+add-word : tie.Need-add-word
+add-word c = search needs
+
+word-requires : tie.Need-word-requires
+word-requires c κs = search needs
+
+body-requires : tie.Need-body-requires
+body-requires c κs = search needs
+
+slice-aggregate-pair : tie.Need-slice-aggregate-pair
+slice-aggregate-pair c = search needs
+
+word-requires-2 : tie.Need-word-requires-2
+word-requires-2 c κs = search needs
+
+pair-requires : tie.Need-pair-requires
+pair-requires c κs = search needs
+
+same-length : tie.Need-same-length
+same-length c = search needs
+
+returns : tie.Need-returns
+unfolding entryLine lineBytes
+returns c =
+    let p = c .before .before .pair in
+    let a = c .before .before .before .before .before .before .before .before .before .before .before .args in
+    rw (← c .before .before .before .before .before .before .before .before .word .ensures, c .before .before .before .before .before .before .if1 .taken, ← c .before .before .before .before .before .before .before .body .ensures, ← c .before .before .before .word2 .ensures) (written-one _ (now (a .out)) (p .result) (a .lines) _ (p .ensures .0) (p .ensures .1))
+
+slice-aggregate-line : tie.Need-slice-aggregate-line
+slice-aggregate-line c = search needs
+
+wide-requires : tie.Need-wide-requires
+wide-requires c κs = search needs
+
+rest-requires : tie.Need-rest-requires
+rest-requires c κs = search needs
+
+line-requires : tie.Need-line-requires
+line-requires c κs = search needs
+
+add-t24 : tie.Need-add-t24
+add-t24 c = search needs
+
+same-length-2 : tie.Need-same-length-2
+same-length-2 c = search needs
+
+returns-2 : tie.Need-returns-2
+unfolding entryLine lineBytes
+returns-2 c =
+    let l = c .before .before .before .line in
+    let a = c .before .before .before .before .before .before .before .before .before .before .before .before .before .before .args in
+    rw (← c .before .before .before .before .before .before .before .before .before .before .before .word .ensures, ne-eqb _ _ (c .before .before .before .before .before .before .before .before .before .if1 .left), c .before .before .before .before .before .before .before .before .if2 .taken, ← c .before .before .before .before .before .before .before .before .before .before .body .ensures, ← c .before .before .before .before .rest .ensures) (written-one _ (now (a .out)) (record { count = a .lines .count + 1; at = l .result }) (a .lines) _ (l .ensures ∙ rw (c .before .before .before .before .before .wide .ensures)) refl)
+
+returns-3 : tie.Need-returns-3
+unfolding entryLine
+returns-3 c =
+    let a = c .before .before .before .before .before .before .args in
+    rw (← c .before .before .before .word .ensures, ne-eqb _ _ (c .before .if1 .left), ne-eqb _ _ (c .if2 .left)) (written-none (now (a .out)) (a .lines))
+
+pub step-spec : {M : Type 1} → statement M
+step-spec =
+    tie.close
+    (tie.spec
+    mul-word
+    add-word
+    word-requires
+    body-requires
+    slice-aggregate-pair
+    word-requires-2
+    pair-requires
+    same-length
+    returns
+    slice-aggregate-line
+    wide-requires
+    rest-requires
+    line-requires
+    add-t24
+    same-length-2
+    returns-2
+    returns-3)

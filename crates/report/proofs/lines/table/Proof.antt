@@ -1,0 +1,60 @@
+use denote.Ref.{now}
+use borrow.Author.Tests.{ne-eqb}
+use Rattle.report.specs.Text.{lineBytes}
+use Rattle.report.specs.Lines.{entryLine}
+use Rattle.report.specs.LinesLaws.{written-none, written-one}
+use borrow.Author.Needs.{needs}
+use Rattle.report.proofs.lines.table.Statement.{statement}
+use Rattle.report.proofs.lines.table.Tie as tie
+
+mul-word : tie.Need-mul-word
+mul-word c = search needs
+
+add-word : tie.Need-add-word
+add-word c = search needs
+
+word-requires : tie.Need-word-requires
+word-requires c κs = search needs
+
+slice-aggregate-pair : tie.Need-slice-aggregate-pair
+slice-aggregate-pair c = search needs
+
+body-requires : tie.Need-body-requires
+body-requires c κs = search needs
+
+word-requires-2 : tie.Need-word-requires-2
+word-requires-2 c κs = search needs
+
+pair-requires : tie.Need-pair-requires
+pair-requires c κs = search needs
+
+same-length : tie.Need-same-length
+same-length c = search needs
+
+returns : tie.Need-returns
+unfolding entryLine lineBytes
+returns c =
+    let p = c .before .before .pair in
+    let a = c .before .before .before .before .before .before .before .before .before .before .before .args in
+    rw (← c .before .before .before .before .before .before .before .before .word .ensures, c .before .before .before .before .before .before .before .if1 .taken, ← c .before .before .before .before .body .ensures, ← c .before .before .before .word2 .ensures) (written-one _ (now (a .out)) (p .result) (a .lines) _ (p .ensures .0) (p .ensures .1))
+
+returns-2 : tie.Need-returns-2
+unfolding entryLine
+returns-2 c =
+    let a = c .before .before .before .before .args in
+    rw (← c .before .word .ensures, ne-eqb _ _ (c .if1 .left)) (written-none (now (a .out)) (a .lines))
+
+pub table-spec : {M : Type 1} → statement M
+table-spec =
+    tie.close
+    (tie.spec
+    mul-word
+    add-word
+    word-requires
+    slice-aggregate-pair
+    body-requires
+    word-requires-2
+    pair-requires
+    same-length
+    returns
+    returns-2)

@@ -1,0 +1,65 @@
+use Prim.Native.Nat.{_+_, _≤_, _-_}
+use mathlib.Core.Path.{_≡_, refl, sym, ap, _∙_}
+use lib.ListN.{length, drop}
+use lib.Seq.{drop-length}
+use native.Mathlib.Omega.{arith}
+use denote.Ref.{now}
+use Rattle.report.specs.Text.{upTo, appended}
+use Rattle.report.specs.TextLaws.{byte-more}
+use borrow.Author.Needs.{needs}
+use Rattle.report.proofs.text.append.Statement.{statement}
+use Rattle.report.proofs.text.append.Tie as tie
+
+abbrev Inv-loop : tie.InvT-loop
+Inv-loop out₀ at bytes n next₀ i₀ out next i = (i ≤ n) × (length out ≡ length out₀) × (appended bytes (upTo out₀ at) ≡ appended (drop i bytes) (upTo out next))
+
+abbrev μ-loop : tie.MeasureT-loop
+μ-loop out₀ at bytes n next₀ i₀ out next i = n - i
+
+loop-holds : tie.Need-loop-holds Inv-loop μ-loop
+loop-holds c = (search needs, search needs, refl)
+
+shared-slice-read-push : tie.Need-shared-slice-read-push Inv-loop μ-loop
+shared-slice-read-push c = search needs
+
+push-requires : tie.Need-push-requires Inv-loop μ-loop
+push-requires c κs = search needs
+
+add-i : tie.Need-add-i Inv-loop μ-loop
+add-i c = search needs
+
+loop-less : tie.Need-loop-less Inv-loop μ-loop
+loop-less c = search needs
+
+loop-again : tie.Need-loop-again Inv-loop μ-loop
+loop-again c =
+    let l = c .before .before .before .before .before .before .loop in
+    let a = c .before .before .before .before .before .before .before .before .before .args in
+    let p = c .before .before .push in
+    (search needs, p .kept .0 ∙ l .inv .1, l .inv .2 ∙ byte-more (now (a .bytes)) (l .i) (c .before .before .before .before .before .loop-test .taken) (upTo (l .out) (l .next)) ∙ ap (appended (drop (l .i + 1) (now (a .bytes)))) (sym (p .ensures)))
+
+same-length : tie.Need-same-length Inv-loop μ-loop
+same-length c = search needs
+
+returns : tie.Need-returns Inv-loop μ-loop
+unfolding appended
+returns c =
+    let l = c .before .loop in
+    let a = c .before .before .before .before .args in
+    let e : l .i ≡ length (now (a .bytes)) = omega arith in
+    sym (l .inv .2 ∙ rw (e, drop-length))
+
+pub append-spec : {M : Type 1} → statement M
+append-spec =
+    tie.close
+    (tie.spec
+    Inv-loop
+    μ-loop
+    loop-holds
+    shared-slice-read-push
+    push-requires
+    add-i
+    loop-less
+    loop-again
+    same-length
+    returns)

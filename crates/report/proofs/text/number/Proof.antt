@@ -1,0 +1,46 @@
+use Prim.Native.Nat.{_≤_}
+use mathlib.Core.Path.{_∙_}
+use native.Mathlib.Omega.{arith}
+use Rattle.report.specs.Text.{appended}
+use Rattle.report.specs.TextLaws.{decimal-is, few-digits}
+use borrow.Author.Needs.{needs}
+use Rattle.report.proofs.text.number.Statement.{statement}
+use Rattle.report.proofs.text.number.Tie as tie
+
+decimal-requires : tie.Need-decimal-requires
+decimal-requires c κs = search needs
+
+push-requires : tie.Need-push-requires
+push-requires c κs = search needs
+
+array-share-prefix-digits : tie.Need-array-share-prefix-digits
+array-share-prefix-digits c = search needs
+
+slice-aggregate-append : tie.Need-slice-aggregate-append
+slice-aggregate-append c = search needs
+
+append-requires : tie.Need-append-requires
+append-requires c κs = search needs
+
+same-length : tie.Need-same-length
+same-length c = search needs
+
+returns : tie.Need-returns
+unfolding appended
+returns c =
+    let d = c .before .before .before .before .before .before .before .before .before .decimal in
+    let a = c .before .before .before .before .before .before .before .before .before .before .before .before .args in
+    let few : d .result ≤ 20 = few-digits (d .result) (a .n) (d .ensures .1 .0) (omega arith) in
+    c .before .before .append .ensures ∙ rw (d .ensures .1 .1, decimal-is 20 (d .result) (a .n) (d .ensures .1 .0) few, c .before .before .before .before .before .before .before .push .ensures)
+
+pub number-spec : {M : Type 1} → statement M
+number-spec =
+    tie.close
+    (tie.spec
+    decimal-requires
+    push-requires
+    array-share-prefix-digits
+    slice-aggregate-append
+    append-requires
+    same-length
+    returns)

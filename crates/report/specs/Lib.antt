@@ -1,0 +1,8 @@
+pub mod Text
+pub mod TextLaws
+pub mod Lines
+pub mod LinesLaws
+pub mod Entries
+pub mod AnswerLines
+pub mod Prints
+pub mod Bound

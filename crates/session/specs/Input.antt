@@ -1,0 +1,10 @@
+-- What one read of an input says of the buffer.
+use Prim.Native.Nat.{ℕ, _<_, _≤_}
+use Rattle.session.specs.declared.input.Got.{Got}
+use Rattle.session.specs.declared.input.Got.the-variants.{Upto, End, Failed}
+
+-- bytes that were read stand in a buffer of n bytes, from `at` on
+abbrev pub Filled : ℕ → ℕ → Got → Type 0
+Filled n at (Upto p) = (at < p) × (p ≤ n)
+Filled n at End = Unit {0}
+Filled n at Failed = Unit {0}

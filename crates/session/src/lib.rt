@@ -1,0 +1,72 @@
+// A book read from a descriptor, run with the memory that `dispatch` lends, and its lines written to standard output.
+mod input;
+
+ghost use mathlib.Core.Path.{_≡_};
+ghost use lib.ListN.{take};
+ghost use Rattle.report.specs.Text.{text, upTo, appended};
+ghost use Rattle.session.specs.Lines.{outcomeLines};
+use engine::Outcome;
+use input::Input;
+
+// The first n bytes, or all where there are fewer.
+fn front(bytes: &[u8], n: usize) -> &[u8]
+    ensures { λ r. ⌜ now r ≡ take n (now (bytes .entry)) ⌝ }
+{
+    if n < bytes.len() { &bytes[..n] } else { bytes }
+}
+
+fn front_words(words: &[u32], n: usize) -> &[u32]
+    ensures { λ r. ⌜ now r ≡ take n (now (words .entry)) ⌝ }
+{
+    if n < words.len() { &words[..n] } else { words }
+}
+
+// The lines of what the engine returned and left in the answer, at the front of `out`.
+fn lines(outcome: Outcome, answer: &[u32], out: &mut [u8]) -> usize
+    ensures { λ r. ⌜ upTo (now (out .exit)) r ≡ appended (text (outcomeLines outcome (now (answer .entry)))) (upTo (now (out .entry)) 0) ⌝ }
+{
+    match outcome {
+        Outcome::Accepted(n) => report::accepted(front_words(answer, n), out, 0),
+        Outcome::Refused(number, place) => report::refused(number, place, out, 0),
+    }
+}
+
+// Runs a book with 8192 words of bindings and of index and 16384 each of log, tables and answer, and puts its lines at the front of `out`. Answers how many bytes they have.
+pub fn respond(book: &[u8], out: &mut [u8]) -> usize {
+    let mut bindings = [0u32; 8192];
+    let mut index = [0u32; 8192];
+    let mut log = [0u32; 16384];
+    let mut tables = [0u32; 16384];
+    let mut answer = [0u32; 16384];
+    let outcome = engine::run(
+        book,
+        &mut bindings,
+        &mut index,
+        &mut log,
+        &mut tables,
+        &mut answer,
+    );
+    lines(outcome, &answer, out)
+}
+
+fn print(bytes: &[u8]) {
+    if !io::write_all(libc::STDOUT_FILENO, bytes) {
+        os::fail(b"standard output");
+    }
+}
+
+// Prints what comes of a book. The lines of an answer of 16384 words have 11 bytes a word at most.
+fn answer_book(book: &[u8]) {
+    let mut out = [0u8; 180224];
+    let n = respond(book, &mut out);
+    print(front(&out, n));
+}
+
+// Reads a book up to the end of its input and prints what comes of it. Where the input cannot be read it says so on standard error, under the name given, and prints nothing.
+pub fn serve(fd: i32, name: &[u8]) {
+    let mut buffer = [0u8; 65537];
+    match input::read_all(fd, &mut buffer) {
+        Input::Bytes(n) => answer_book(front(&buffer, n)),
+        Input::Failed => os::fail(name),
+    }
+}
