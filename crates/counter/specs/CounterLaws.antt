@@ -5,11 +5,14 @@ use mathlib.Core.Option.{Option, none, some}
 use mathlib.Core.List.{List, _++_}
 use native.Mathlib.Omega.{arith}
 use lib.ListN.{length, getD, set, replicate, length-append, length-replicate, length-set, List·getD-append}
-use lib.Seq.{set-append-left}
+use lib.Seq.{set-append-left, set-getD}
 use Rattle.model.specs.Basics.{found}
 use Rattle.model.specs.Book.Syntax.{Counter, noCounter}
 use Rattle.model.specs.Machine.Values.{draw}
-use Rattle.counter.specs.Counter.{afterDraw}
+use Rattle.counter.specs.declared.Counter as code
+use Rattle.counter.specs.declared.Drawn.{Drawn}
+use Rattle.counter.specs.declared.Drawn.the-variants.{Next, Spent}
+use Rattle.counter.specs.Counter.{drawnOf, after, raised, afterDraw}
 
 unfoldable pub padded : List Counter → List ℕ
 padded cs = cs ++ replicate (16 - length cs) 0
@@ -32,3 +35,16 @@ draw-padded cs c h = rw (getD-padded cs c h) (by (draw (getD cs c noCounter)))
     by : (o : Option (ℕ × Counter)) → found o (λ p. set (padded cs) c (p .1)) (λ _. padded cs) ≡ padded (found o (λ p. set cs c (p .1)) (λ _. cs))
     by none = refl
     by (some p) = set-padded cs c (p .1) h
+
+-- what a draw from a counter leaves is the raised counter
+pub after-draw : (d : Drawn) (c : code.Counter) → drawnOf d ≡ draw (c .next) → after d c ≡ raised c
+after-draw (Next x to) c e = rw (← e)
+after-draw Spent c e = rw (← e)
+
+-- a spent counter that is set back changes nothing, so the counters are set after every draw
+pub set-raised : (cs : List Counter) (c : ℕ) → set cs c (raised (record { next = getD cs c noCounter }) .next) ≡ afterDraw cs c
+set-raised cs c = by (draw (getD cs c noCounter))
+  where
+    by : (o : Option (ℕ × Counter)) → set cs c (found {B = code.Counter} o (λ p. record { next = p .1 }) (λ _. record { next = getD cs c noCounter }) .next) ≡ found o (λ p. set cs c (p .1)) (λ _. cs)
+    by none = set-getD cs c noCounter
+    by (some p) = refl

@@ -2,7 +2,7 @@
 ghost use mathlib.Core.Path.{_≡_};
 ghost use lib.ListN.{getD, set};
 ghost use Rattle.model.specs.Machine.Values.{draw};
-ghost use Rattle.counter.specs.Counter.{drawnOf, Hands};
+ghost use Rattle.counter.specs.Counter.{drawnOf, after, raised, Hands};
 
 pub struct Counter {
     pub next: u32,
@@ -26,6 +26,27 @@ impl Counter {
             Drawn::Spent
         }
     }
+}
+
+impl Drawn {
+    // The counter that the draw leaves; a spent one stays as it was.
+    fn after(self, was: Counter) -> Counter
+        ensures { λ r. ⌜ r ≡ after self was ⌝ }
+    {
+        match self {
+            Drawn::Next(_, to) => to,
+            Drawn::Spent => was,
+        }
+    }
+}
+
+// Draws from a counter that is lent for change, and raises it in place.
+pub fn inc_in_place(counter: &mut Counter) -> Drawn
+    ensures { λ r. ⌜ (drawnOf r ≡ draw (now (counter .entry) .next)) × (now (counter .exit) ≡ raised (now (counter .entry))) ⌝ }
+{
+    let drawn = Counter::inc(*counter);
+    *counter = drawn.after(*counter);
+    drawn
 }
 
 // The counters of a book, 0 past the last.
@@ -58,19 +79,15 @@ impl Counters {
         self
     }
 
+    // The counter is lent, and set back as it is left; a spent one is left as it was.
     pub fn inc(self, c: ids::CounterId) -> Handed
         ensures { λ r. ⌜ Hands (self .next) (c .0) r ⌝ }
     {
-        let counter = Counter { next: self.read(c) };
-        match counter.inc() {
-            Drawn::Next(x, to) => Handed {
-                drawn: Drawn::Next(x, to),
-                counters: self.set(c, to),
-            },
-            Drawn::Spent => Handed {
-                drawn: Drawn::Spent,
-                counters: self,
-            },
+        let mut counter = Counter { next: self.read(c) };
+        let drawn = inc_in_place(&mut counter);
+        Handed {
+            drawn,
+            counters: self.set(c, counter),
         }
     }
 }
