@@ -1,9 +1,10 @@
 // One walk over a body, word by word: refusals 3, 6 and 4.
 ghost use mathlib.Core.Path.{_≡_};
-ghost use Prim.Native.Nat.{_+_, _^_, _<_};
+ghost use Prim.Native.Nat.{_+_, _<_};
 ghost use lib.ListN.{getD};
 ghost use Rattle.model.specs.Book.Scan as spec;
 ghost use Rattle.reader.specs.Values.{drawOf, testOf, scanOf};
+use crate::reader;
 
 const STALE: u32 = 4294967295;
 
@@ -59,44 +60,28 @@ fn earliest(drawn: usize, at: usize) -> usize
     if drawn == 0 { at } else { drawn }
 }
 
-// Past the word `at`, which draws d.
-fn mark(d: Draw, at: usize, absent: usize, stale: usize) -> Scan
-    requires { ⌜ at + 1 < 2 ^ 64 ⌝ }
+// Past the word `at`, which draws d, to the word `next`.
+fn mark(d: Draw, at: usize, next: usize, absent: usize, stale: usize) -> Scan
+    requires { ⌜ next ≡ at + 1 ⌝ }
     ensures { λ r. ⌜ scanOf r ≡ spec.mark (drawOf d) at absent stale ⌝ }
 {
     match d {
         Draw::Fine => Scan::Good {
-            at: at + 1,
+            at: next,
             absent,
             stale,
         },
         Draw::Layout => Scan::Bad,
         Draw::Absent => Scan::Good {
-            at: at + 1,
+            at: next,
             absent: earliest(absent, at),
             stale,
         },
         Draw::Stale => Scan::Good {
-            at: at + 1,
+            at: next,
             absent,
             stale: earliest(stale, at),
         },
-    }
-}
-
-// Past a word that draws d, if the body has one more.
-fn step(end: usize, d: Draw, s: Scan) -> Scan
-    ensures { λ r. ⌜ scanOf r ≡ spec.step end (drawOf d) (scanOf s) ⌝ }
-{
-    match s {
-        Scan::Bad => Scan::Bad,
-        Scan::Good { at, absent, stale } => {
-            if at < end {
-                mark(d, at, absent, stale)
-            } else {
-                Scan::Bad
-            }
-        }
     }
 }
 
@@ -113,14 +98,23 @@ pub fn peek(words: &[u32], s: Scan) -> u32
 {
     match s {
         Scan::Bad => 0,
-        Scan::Good { at, .. } => words::word(words, at),
+        Scan::Good { at, .. } => reader::word_at(words, at),
     }
 }
 
-// Past a word that is put to a test.
+// Past a word that is put to a test, if the body has one more.
 pub fn word(end: usize, words: &[u32], test: Test, s: Scan) -> Scan
     ensures { λ r. ⌜ scanOf r ≡ spec.word end (now (words .entry)) (testOf test) (scanOf s) ⌝ }
 {
-    let x = peek(words, s);
-    step(end, drawn(test, x), s)
+    match s {
+        Scan::Bad => Scan::Bad,
+        Scan::Good { at, absent, stale } => {
+            if at < end {
+                let t = reader::take(words, at);
+                mark(drawn(test, t.word), at, t.next, absent, stale)
+            } else {
+                Scan::Bad
+            }
+        }
+    }
 }

@@ -5,17 +5,11 @@ use Rattle.reader.proofs.scan.mark.Tie as tie
 enum-told : tie.Need-enum-told
 enum-told c = search needs
 
-add-t6 : tie.Need-add-t6
-add-t6 c = search needs
-
 enum-told-2 : tie.Need-enum-told-2
 enum-told-2 c = search needs
 
 enum-told-3 : tie.Need-enum-told-3
 enum-told-3 c = search needs
-
-add-t7 : tie.Need-add-t7
-add-t7 c = search needs
 
 earliest-requires : tie.Need-earliest-requires
 earliest-requires c κs = search needs
@@ -23,38 +17,20 @@ earliest-requires c κs = search needs
 enum-told-4 : tie.Need-enum-told-4
 enum-told-4 c = search needs
 
-add-t9 : tie.Need-add-t9
-add-t9 c = search needs
-
 earliest-requires-2 : tie.Need-earliest-requires-2
 earliest-requires-2 c κs = search needs
 
 returns : tie.Need-returns
-returns c = rw (c .enum-told .given .1)
+returns c = rw (c .enum-told .given .1, c .before .before .pre)
 
 returns-2 : tie.Need-returns-2
 returns-2 c = rw (c .enum-told2 .given .1)
 
 returns-3 : tie.Need-returns-3
-returns-3 c = rw (c .before .enum-told3 .given .1, c .earliest .ensures)
+returns-3 c = rw (c .before .enum-told3 .given .1, c .before .before .before .pre, c .earliest .ensures)
 
 returns-4 : tie.Need-returns-4
-returns-4 c = rw (c .before .enum-told4 .given .1, c .earliest2 .ensures)
+returns-4 c = rw (c .before .enum-told4 .given .1, c .before .before .before .pre, c .earliest2 .ensures)
 
 pub mark-spec : {M : Type 1} → statement M
-mark-spec =
-    tie.close
-    (tie.spec
-    enum-told
-    add-t6
-    enum-told-2
-    enum-told-3
-    add-t7
-    earliest-requires
-    enum-told-4
-    add-t9
-    earliest-requires-2
-    returns
-    returns-2
-    returns-3
-    returns-4)
+mark-spec = tie.close (tie.spec enum-told enum-told-2 enum-told-3 earliest-requires enum-told-4 earliest-requires-2 returns returns-2 returns-3 returns-4)

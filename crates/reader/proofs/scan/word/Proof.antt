@@ -1,18 +1,52 @@
+use borrow.Author.Tests.{lt-ltb, le-ltb}
+use Rattle.model.specs.Book.Scan.{step}
 use borrow.Author.Needs.{needs}
 use Rattle.reader.proofs.scan.word.Statement.{statement}
 use Rattle.reader.proofs.scan.word.Tie as tie
 
-peek-requires : tie.Need-peek-requires
-peek-requires c κs = search needs
+enum-told : tie.Need-enum-told
+enum-told c = search needs
+
+enum-known-s : tie.Need-enum-known-s
+enum-known-s c = search needs
+
+take-requires : tie.Need-take-requires
+take-requires c κs = search needs
 
 drawn-requires : tie.Need-drawn-requires
 drawn-requires c κs = search needs
 
-step-requires : tie.Need-step-requires
-step-requires c κs = search needs
+mark-requires : tie.Need-mark-requires
+mark-requires c κs = search needs
 
 returns : tie.Need-returns
-returns c = rw (c .step .ensures, c .before .drawn .ensures, c .before .before .peek .ensures)
+unfolding step
+returns c = rw (c .enum-told .given .1)
+
+returns-2 : tie.Need-returns-2
+unfolding step
+returns-2 c =
+    rw (
+      c .before .before .before .before .before .s .given .1,
+      lt-ltb _ _ (c .before .before .before .if1 .taken),
+      c .mark .ensures,
+      c .before .drawn .ensures,
+      c .before .before .take .ensures .0,
+    )
+
+returns-3 : tie.Need-returns-3
+unfolding step
+returns-3 c = rw (c .before .before .s .given .1, le-ltb _ _ (c .if1 .left))
 
 pub word-spec : {M : Type 1} → statement M
-word-spec = tie.close (tie.spec peek-requires drawn-requires step-requires returns)
+word-spec =
+    tie.close
+    (tie.spec
+    enum-told
+    enum-known-s
+    take-requires
+    drawn-requires
+    mark-requires
+    returns
+    returns-2
+    returns-3)
