@@ -13,7 +13,7 @@ pub fn fault(rng: &mut Rng, book: &mut Book) {
             10..=11 => fault_in_step(rng, book),
             12 => fault_in_table(rng, book),
             13 => any_mut(rng, &mut book.counters).map(|next| *next = STALE),
-            14 => any_mut(rng, &mut book.rules).map(|rule| rule.v = rng.pick(&[rule.v + 1, 33, 0])),
+            14 => any_mut(rng, &mut book.rules).map(|rule| rule.v = rng.pick(&[rule.v.wrapping_add(1), 33, 0])),
             _ => stale_somewhere(rng, book),
         };
         if done.is_some() {
@@ -132,8 +132,8 @@ fn fault_in_table(rng: &mut Rng, book: &mut Book) -> Option<()> {
     let table = any_mut(rng, &mut book.tables)?;
     match rng.below(6) {
         0 => table.merge = rng.pick(&[4, 5, STALE]),
-        1 => table.keys = rng.pick(&[table.keys + 1, 9, table.keys.wrapping_sub(1)]),
-        2 => table.vals = rng.pick(&[table.vals + 1, 9, table.vals.wrapping_sub(1)]),
+        1 => table.keys = rng.pick(&[table.keys.wrapping_add(1), 9, table.keys.wrapping_sub(1)]),
+        2 => table.vals = rng.pick(&[table.vals.wrapping_add(1), 9, table.vals.wrapping_sub(1)]),
         _ => {
             // A key that stands already, with other values or the same.
             let mut row = any_mut(rng, &mut table.rows)?.clone();
