@@ -41,16 +41,17 @@ pub struct Acted {
     pub state: ExecutionState,
 }
 
-// A counter's next in every lane, dead ones too.
+// A counter's next in every lane of the mask.
 fn read_counter(
     words: &[u32],
     bindings: &[u32],
     counter: CounterId,
+    mask: Mask,
     state: ExecutionState,
     out: &mut [u32],
 )
     requires { ⌜ length (now out) ≡ 256 ⌝ }
-    ensures { λ _. ⌜ now (out .exit) ≡ answeredWords (asked (now (words .entry)) (now (bindings .entry)) (Entry (Const (getD (state .counters .next) (counter .0) 0)))) (firstLanes 256) (now (out .entry)) ⌝ }
+    ensures { λ _. ⌜ now (out .exit) ≡ answeredWords (asked (now (words .entry)) (now (bindings .entry)) (Entry (Const (getD (state .counters .next) (counter .0) 0)))) (mask .live) (now (out .entry)) ⌝ }
 {
     let counters = state.counters;
     let next = counters.read(counter);
@@ -58,7 +59,7 @@ fn read_counter(
         words,
         bindings,
         Ask::Entry(QueryEntry::Const(next)),
-        Mask::new(256),
+        mask,
         out,
     );
 }
@@ -123,16 +124,13 @@ fn act(
             args,
             dst_col,
             ..
-        } => Acted {
-            mask: lanes::fill(
-                words,
-                bindings,
-                lookup::row_ask(words, table, args, dst_col),
-                mask,
-                out,
-            ),
-            state,
-        },
+        } => {
+            let ask = lookup::row_ask(words, table, args, dst_col);
+            Acted {
+                mask: lanes::fill(words, bindings, ask, mask, out),
+                state,
+            }
+        }
         Instr::LookupWithFallback {
             table,
             table_key,
@@ -239,7 +237,9 @@ fn act(
             state,
         },
         Instr::ReadCounter { counter, .. } => {
-            read_counter(words, bindings, counter, state, out);
+            // Dead lanes too have the counter's next in dst.
+            let every = Mask::new(256);
+            read_counter(words, bindings, counter, every, state, out);
             Acted { mask, state }
         }
     }

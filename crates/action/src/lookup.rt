@@ -38,8 +38,8 @@ pub fn fill_or_else(
     out: &mut [u32],
 ) -> Mask
     requires { ⌜ AskFits (now words) ask × AskFits (now words) other × (length (now out) ≡ 256) ⌝ }
-    ensures lanes { λ r. ⌜ r .live ≡ eitherLanes (now (words .entry)) (now (bindings .entry)) ask other (mask .live) ⌝ }
     ensures words { λ r. ⌜ now (out .exit) ≡ eitherWords (now (words .entry)) (now (bindings .entry)) ask other (mask .live) (now (out .entry)) ⌝ }
+    ensures lanes { λ r. ⌜ r .live ≡ eitherLanes (now (words .entry)) (now (bindings .entry)) ask other (mask .live) ⌝ }
 {
     let found = lanes::fill(words, bindings, ask, mask, out);
     let missed = mask.difference(found);

@@ -124,6 +124,9 @@ retain-requires-4 c κs = rw (c .before .i12 .given .1) at (c .before .before .b
 enum-known-i-13 : tie.Need-enum-known-i-13
 enum-known-i-13 c = search needs
 
+new-requires : tie.Need-new-requires
+new-requires c κs = search needs
+
 read-counter-requires : tie.Need-read-counter-requires
 read-counter-requires c κs = search needs
 
@@ -225,7 +228,7 @@ same-length-12 c = search needs
 
 returns-13 : tie.Need-returns-13
 unfolding acted
-returns-13 c = (rw (c .before .before .before .before .before .i13 .given .1, c .before .before .read-counter .ensures), c .before .before .before .before .before .before .before .before .before .before .before .before .pre .2 .used)
+returns-13 c = (rw (c .before .before .before .before .before .before .i13 .given .1, c .before .before .read-counter .ensures, c .before .before .before .before .new .ensures), c .before .before .before .before .before .before .before .before .before .before .before .before .before .pre .2 .used)
 
 pub act-spec : {M : Type 1} → statement M
 act-spec =
@@ -260,6 +263,7 @@ act-spec =
     enum-known-i-12
     retain-requires-4
     enum-known-i-13
+    new-requires
     read-counter-requires
     same-length
     same-length-2

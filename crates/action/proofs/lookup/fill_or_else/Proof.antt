@@ -22,7 +22,7 @@ returns c =
     let found = c .before .before .before .before .before .before .before .before .fill .ensures in
     let missed = c .before .before .before .before .before .difference .ensures in
     let served = c .before .before .before .fill2 .ensures in
-    (rw (c .union .ensures, served .0, missed, found .0), rw (served .1, missed, found .0, found .1))
+    (rw (served .1, missed, found .0, found .1), rw (c .union .ensures, served .0, missed, found .0))
 
 pub fill-or-else-spec : {M : Type 1} → statement M
 fill-or-else-spec =
