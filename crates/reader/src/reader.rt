@@ -1,4 +1,4 @@
-// The book's words and the word that a walk stands at. Each function that takes, makes or holds a `Reader` has a proof by hand, so there are few of them; the last two have plain parameters, and their callers are proved as any other.
+// The book's words and the word that a walk stands at. Each function that takes, makes or holds a `Reader` has a proof by hand, so there are few of them; the last one has plain parameters, and its callers are proved as any other.
 ghost use mathlib.Core.Path.{_≡_};
 ghost use Prim.Native.Nat.{_+_, _^_, _<_};
 ghost use lib.ListN.{getD};
@@ -43,13 +43,6 @@ fn past<'a>(r: Reader<'a>) -> Reader<'a>
         words: r.words,
         at: r.at + 1,
     }
-}
-
-// The word at p.
-pub fn word_at(words: &[u32], p: usize) -> u32
-    ensures { λ r. ⌜ r ≡ getD (now (words .entry)) p 0 ⌝ }
-{
-    word(new(words, p))
 }
 
 // The word at p, and the place after it.

@@ -92,13 +92,19 @@ pub fn size_at(words: &[u32], p: usize) -> usize
     words::size(words::word(words, p))
 }
 
-// The word that a walk stands at.
+// The word that a walk stands at, 0 past the end.
 pub fn peek(words: &[u32], s: Scan) -> u32
     ensures { λ r. ⌜ r ≡ spec.peek (now (words .entry)) (scanOf s) ⌝ }
 {
     match s {
         Scan::Bad => 0,
-        Scan::Good { at, .. } => reader::word_at(words, at),
+        Scan::Good { at, .. } => {
+            if at < words.len() {
+                let t = reader::take(words, at);
+                return t.word;
+            }
+            0
+        }
     }
 }
 

@@ -1,3 +1,7 @@
+use mathlib.Core.Path.{sym}
+use lib.ListN.{List·getD-eq-default}
+use native.Mathlib.Omega.{arith}
+use denote.Ref.{now}
 use borrow.Author.Needs.{needs}
 use Rattle.reader.proofs.scan.peek.Statement.{statement}
 use Rattle.reader.proofs.scan.peek.Tie as tie
@@ -8,14 +12,19 @@ enum-told c = search needs
 enum-known-s : tie.Need-enum-known-s
 enum-known-s c = search needs
 
-word-at-requires : tie.Need-word-at-requires
-word-at-requires c κs = search needs
+take-requires : tie.Need-take-requires
+take-requires c κs = search needs
 
 returns : tie.Need-returns
-returns c = rw (c .enum-told .given .1)
+returns c = rw (c .before .before .before .s .given .1, c .take .ensures .0)
 
 returns-2 : tie.Need-returns-2
-returns-2 c = rw (c .before .before .s .given .1, c .word-at .ensures)
+returns-2 c = rw (c .enum-told .given .1)
+
+returns-3 : tie.Need-returns-3
+returns-3 c =
+    let s = c .before .before .s .given in
+    rw (s .1) (sym (List·getD-eq-default (now (c .before .before .before .before .before .args .words)) 0 {n = s .0 .0} (omega (arith, c .if1 .left))))
 
 pub peek-spec : {M : Type 1} → statement M
-peek-spec = tie.close (tie.spec enum-told enum-known-s word-at-requires returns returns-2)
+peek-spec = tie.close (tie.spec enum-told enum-known-s take-requires returns returns-2 returns-3)
