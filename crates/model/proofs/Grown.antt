@@ -1,4 +1,4 @@
--- A trace and a log only grow, and a run that has stopped stays so.
+-- A trace and a log only grow, what is logged is noted, and a run that has stopped stays so.
 use Prim.Native.Nat.{ℕ, zero, suc, _≤_}
 use native.Mathlib.Omega.{arith}
 use mathlib.Core.Path.{_≡_, refl, sym, ap, _∙_}
@@ -8,7 +8,7 @@ use mathlib.Core.List.{List, [], _∷_, _++_, append-nil, append-assoc}
 use lib.Dec.{T}
 use lib.ListN.{length, getElem?}
 use Rattle.model.specs.Basics.{All}
-use Rattle.model.specs.Machine.State.{State, Record, Event, Status, going, stuck, spent, full, isGoing}
+use Rattle.model.specs.Machine.State.{State, Record, Event, reads, Status, going, stuck, spent, full, isGoing}
 use Rattle.model.specs.Claims.Trace.{In}
 use Rattle.model.specs.Laws.Logic.{none-some, some-inj, either, All-map, All-append, All-at}
 
@@ -99,10 +99,15 @@ T-going stuck t = absurd t
 T-going spent t = absurd t
 T-going full t = absurd t
 
--- from one trace, log and status to another: new events with Q, new records with R
+-- the record's words are in a `reads` event of its site
+abbrev pub RecordNoted : List Event → Record → Type 0
+RecordNoted tr r = In (reads (r .site) (r .words)) tr
+
+-- from one trace, log and status to another: new events with Q, new records with R, which are noted
 pub record Grown (Q : Event → Type 0) (R : Record → Type 0) (tr : List Event) (rs : List Record) (st : Status) (tr′ : List Event) (rs′ : List Record) (st′ : Status) : Type 0 where
   pub trace : Newer Q tr tr′
   pub log : Longer R rs rs′
+  pub noted : All (RecordNoted tr′) (log .0)
   pub goes : T (isGoing st′) → T (isGoing st)
 
 abbrev pub Grows : (Event → Type 0) → (Record → Type 0) → State → State → Type 0
@@ -110,19 +115,39 @@ Grows Q R s s′ = Grown Q R (s .trace) (s .log) (s .status) (s′ .trace) (s′
 
 module _ (Q : Event → Type 0) (R : Record → Type 0) where
   pub grows-refl : (s : State) → Grows Q R s s
-  grows-refl s = record { trace = newer-refl Q (s .trace); log = longer-refl R (s .log); goes = λ g. g }
+  unfolding longer-refl
+  grows-refl s = record { trace = newer-refl Q (s .trace); log = longer-refl R (s .log); noted = tt; goes = λ g. g }
+
+  -- what is noted stays so
+  still-noted : (tr tr′ : List Event) → Newer Q tr tr′ → (rs : List Record) → All (RecordNoted tr) rs → All (RecordNoted tr′) rs
+  still-noted tr tr′ n rs h = All-map (λ r p. newer-in Q tr tr′ n p) rs h
 
   pub grows-trans : (s s′ s″ : State) → Grows Q R s s′ → Grows Q R s′ s″ → Grows Q R s s″
-  grows-trans s s′ s″ a b = record { trace = newer-trans Q (s .trace) (s′ .trace) (s″ .trace) (a .trace) (b .trace); log = longer-trans R (s .log) (s′ .log) (s″ .log) (a .log) (b .log); goes = λ g. a .goes (b .goes g) }
+  unfolding longer-trans
+  grows-trans s s′ s″ a b = record {
+    trace = newer-trans Q (s .trace) (s′ .trace) (s″ .trace) (a .trace) (b .trace);
+    log = longer-trans R (s .log) (s′ .log) (s″ .log) (a .log) (b .log);
+    noted = All-append (RecordNoted (s″ .trace)) (a .log .0) (b .log .0) (still-noted (s′ .trace) (s″ .trace) (b .trace) (a .log .0) (a .noted)) (b .noted);
+    goes = λ g. a .goes (b .goes g);
+  }
 
   pub grows-note : (s s′ : State) → Grows Q R s s′ → (e : Event) → Q e → Grown Q R (s .trace) (s .log) (s .status) (e ∷ s′ .trace) (s′ .log) (s′ .status)
-  grows-note s s′ a e q = record { trace = newer-trans Q (s .trace) (s′ .trace) (e ∷ s′ .trace) (a .trace) (e ∷ [], refl, (q, tt)); log = a .log; goes = a .goes }
+  grows-note s s′ a e q =
+      let one : Newer Q (s′ .trace) (e ∷ s′ .trace) = (e ∷ [], refl, (q, tt)) in
+      record { trace = newer-trans Q (s .trace) (s′ .trace) (e ∷ s′ .trace) (a .trace) one; log = a .log; noted = still-noted (s′ .trace) (e ∷ s′ .trace) one (a .log .0) (a .noted); goes = a .goes }
 
-  pub grows-logged : (s s′ : State) → Grows Q R s s′ → (r : Record) → R r → Grown Q R (s .trace) (s .log) (s .status) (s′ .trace) (s′ .log ++ (r ∷ [])) (s′ .status)
-  grows-logged s s′ a r q = record { trace = a .trace; log = longer-trans R (s .log) (s′ .log) (s′ .log ++ (r ∷ [])) (a .log) (r ∷ [], refl, (q, tt)); goes = a .goes }
+  pub grows-logged : (s s′ : State) → Grows Q R s s′ → (r : Record) → R r → RecordNoted (s′ .trace) r → Grown Q R (s .trace) (s .log) (s .status) (s′ .trace) (s′ .log ++ (r ∷ [])) (s′ .status)
+  unfolding longer-trans
+  grows-logged s s′ a r q n = record {
+    trace = a .trace;
+    log = longer-trans R (s .log) (s′ .log) (s′ .log ++ (r ∷ [])) (a .log) (r ∷ [], refl, (q, tt));
+    noted = All-append (RecordNoted (s′ .trace)) (a .log .0) (r ∷ []) (a .noted) (n, tt);
+    goes = a .goes;
+  }
 
   pub grows-stop : (s s′ : State) → Grows Q R s s′ → (st : Status) → (T (isGoing st) → ⊥) → Grown Q R (s .trace) (s .log) (s .status) (s′ .trace) (s′ .log) st
-  grows-stop s s′ a st n = record { trace = a .trace; log = a .log; goes = λ g. absurd (n g) }
+  grows-stop s s′ a st n = record { trace = a .trace; log = a .log; noted = a .noted; goes = λ g. absurd (n g) }
 
 pub grows-map : {Q Q′ : Event → Type 0} {R R′ : Record → Type 0} → ((e : Event) → Q e → Q′ e) → ((r : Record) → R r → R′ r) → (s s′ : State) → Grows Q R s s′ → Grows Q′ R′ s s′
-grows-map f g s s′ a = record { trace = newer-map f (s .trace) (s′ .trace) (a .trace); log = longer-map g (s .log) (s′ .log) (a .log); goes = a .goes }
+unfolding longer-map
+grows-map f g s s′ a = record { trace = newer-map f (s .trace) (s′ .trace) (a .trace); log = longer-map g (s .log) (s′ .log) (a .log); noted = a .noted; goes = a .goes }

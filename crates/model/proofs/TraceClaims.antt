@@ -14,11 +14,11 @@ use Rattle.model.specs.Machine.State.{State, took, asks, isGoing, predic
 use Rattle.model.specs.Machine.Values.{laneOf, valueOf, valuesOf, find}
 use Rattle.model.specs.Machine.Steps.{here, tableOf, clear, orStale, bindOut, finish, body, predict, step, run}
 use Rattle.model.specs.Check.{entriesOf, readsOf}
-use Rattle.model.specs.Claims.Trace.{In, readFirst, readThen, ReadsAll, LookupAt, lookupOf, Comes, pre, post, EntriesNoted, RowsNoted, AnswersNoted}
-use Rattle.model.specs.Laws.Logic.{none-some, some-inj, either, found-ind, when-ind}
+use Rattle.model.specs.Claims.Trace.{In, readFirst, readThen, ReadsAll, LookupAt, lookupOf, Comes, pre, post, EntriesNoted, RowsNoted, AnswersNoted, RecordsNoted}
+use Rattle.model.specs.Laws.Logic.{none-some, some-inj, either, found-ind, when-ind, All-at}
 use Rattle.model.specs.Safety.Run.{bind-same, out-column}
 use Rattle.model.specs.Laws.Turns.{need-ind}
-use Rattle.model.proofs.Grown.{in-there, in-cons, in-append, in-left, in-right, in-none, newer-in, going-T, T-going}
+use Rattle.model.proofs.Grown.{in-there, in-cons, in-append, in-left, in-right, in-none, newer-in, going-T, T-going, RecordNoted}
 use Rattle.model.proofs.TracePasses.{when-yes}
 use Rattle.model.proofs.Went.{row-went}
 use Rattle.model.proofs.TraceBodies.{Took}
@@ -146,3 +146,9 @@ module _ (E : Env) (counters : List Counter) (steps : List Step) where
         ap (λ z. z .answers) e ∙ p .2,
         newer-in _ (run E counters steps (suc k) .trace) (run E counters steps n .trace) (run-grows E counters steps (suc k) n lt .trace) (subst (λ z. In (took (here k 0 0) (p .1)) (z .trace)) (sym e) (p .3)),
       )
+
+  -- ## The log
+
+  pub records-noted : RecordsNoted E counters steps
+  unfolding run
+  records-noted n m r e = let a = run-grows E counters steps 0 n (omega arith) in All-at (RecordNoted (run E counters steps n .trace)) (a .log .0) m (a .noted) (sym (ap (λ l. getElem? l m) (a .log .1)) ∙ e)

@@ -127,7 +127,7 @@ module _ (E : Env) where
       loses = λ s′ m. m;
       draws = λ cs s′ m. m;
       marks = λ s′ m. m;
-      stages = λ r s′ e m. grows-logged _ _ s s′ m r e;
+      stages = λ r s′ e n m. grows-logged _ _ s s′ m r e n;
     }
 
     pub predict-adds : (t : ℕ) (key : List ℕ) (vs : List WriteVal) → (find (tableOf E t .keys) (tableOf E t .rows) key ≡ none → A t key) → Owned (predict E o t key vs s)

@@ -17,7 +17,7 @@ use Rattle.model.specs.Claims.Trace.{In}
 use Rattle.model.specs.Laws.Logic.{found-ind, when-ind}
 use Rattle.model.specs.Safety.Inv.{set-within}
 use Rattle.model.specs.Laws.Turns.{need-ind, room-ind}
-use Rattle.model.proofs.Grown.{in-there, newer-in, Grows, grows-refl, grows-trans, grows-note, grows-logged, grows-stop, grows-map}
+use Rattle.model.proofs.Grown.{in-there, newer-in, RecordNoted, Grows, grows-refl, grows-trans, grows-note, grows-logged, grows-stop, grows-map}
 
 -- ## From a state to a later one of the same batch
 
@@ -61,8 +61,8 @@ module _ (L : ℕ → Type 0) (Q : Event → Type 0) (R : Record → Type 0) whe
     pub moves-note : (e : Event) → Q e → Moves L Q R s (note e s′)
     moves-note e q = record { grows = grows-note Q R s s′ (m .grows) e q; kept = m .kept; bindings = m .bindings; answers = m .answers }
 
-    pub moves-logged : (r : Record) → R r → Moves L Q R s (logged r s′)
-    moves-logged r q = record { grows = grows-logged Q R s s′ (m .grows) r q; kept = m .kept; bindings = m .bindings; answers = m .answers }
+    pub moves-logged : (r : Record) → R r → RecordNoted (s′ .trace) r → Moves L Q R s (logged r s′)
+    moves-logged r q n = record { grows = grows-logged Q R s s′ (m .grows) r q n; kept = m .kept; bindings = m .bindings; answers = m .answers }
 
     pub moves-counters : (cs : List Counter) → Moves L Q R s (withCounters cs s′)
     moves-counters cs = record { grows = m .grows; kept = m .kept; bindings = m .bindings; answers = m .answers }
@@ -123,7 +123,7 @@ pub record Closed (o : Site) (A : ℕ → List ℕ → Type 0) (P : State → Ty
   pub loses : (s : State) → P s → P (lose (o .lane) s)
   pub draws : (cs : List Counter) (s : State) → P s → P (withCounters cs s)
   pub marks : (s : State) → P s → P (change s)
-  pub stages : (r : Record) (s : State) → r .site ≡ o → P s → P (logged r s)
+  pub stages : (r : Record) (s : State) → r .site ≡ o → RecordNoted (s .trace) r → P s → P (logged r s)
 
 module _ (o : Site) (A : ℕ → List ℕ → Type 0) (P : State → Type 0) (c : Closed o A P) where
   pub column-closed : (col : ℕ) (r : List ℕ) (s : State) → P s → P (takeColumn o col r s)
@@ -164,14 +164,14 @@ module _ (o : Site) (A : ℕ → List ℕ → Type 0) (P : State → Type 0) (c 
     list-closed kind t n vals s p =
         need-ind P (listOf (s .bindings) (o .lane) n vals) s _ (c .stops stuck s (λ t′. t′) p) (λ ws _.
         let p′ : P (change (note (reads o ws) s)) = c .marks _ (c .notes ws s p) in
-        room-ind P (E .room (logWords (s .log ++ (record { site = o; kind = kind; table = t; words = ws } ∷ [])))) _ _ _ (c .stages _ _ refl p′) (c .stops full _ (λ t′. t′) p′))
+        room-ind P (E .room (logWords (s .log ++ (record { site = o; kind = kind; table = t; words = ws } ∷ [])))) _ _ _ (c .stages _ _ refl (0, refl) p′) (c .stops full _ (λ t′. t′) p′))
 
     pub new-closed : (t : ℕ) (B : Built) (k : List ℕ → State → State) → ((r : List ℕ) (s : State) → P s → P (k r s)) → (s : State) → P s → P (stageNew E o t B s k)
     new-closed t isStuck k h s p = c .stops stuck s (λ t′. t′) p
     new-closed t isSpent k h s p = c .stops spent s (λ t′. t′) p
     new-closed t (built r cs) k h s p =
         let p′ : P (note (reads o r) (withCounters cs s)) = c .notes r _ (c .draws cs s p) in
-        room-ind P (E .room (logWords (s .log ++ (record { site = o; kind = 2; table = t; words = r } ∷ [])))) _ _ _ (h r _ (c .stages _ _ refl p′)) (c .stops full _ (λ t′. t′) p′)
+        room-ind P (E .room (logWords (s .log ++ (record { site = o; kind = 2; table = t; words = r } ∷ [])))) _ _ _ (h r _ (c .stages _ _ refl (0, refl) p′)) (c .stops full _ (λ t′. t′) p′)
 
     pub row-closed : (b : Bindings) (t : ℕ) (key : List ℕ) (vs : List WriteVal) (k : Bool → List ℕ → State → State) → ((new : Bool) (r : List ℕ) (s : State) → P s → P (k new r s)) → (s : State) → P s → P (predictRow E o b t key vs s k)
     unfolding predictRow
@@ -196,7 +196,7 @@ in-closed o A e = record {
   loses = λ s m. m;
   draws = λ cs s m. m;
   marks = λ s m. m;
-  stages = λ r s e′ m. m;
+  stages = λ r s e′ n m. m;
 }
 
 -- ## A turn
@@ -221,7 +221,7 @@ turn-closed o A s₀ = record {
   loses = λ s m. moves-lose _ _ _ s₀ s m (o .lane) refl;
   draws = λ cs s m. moves-counters _ _ _ s₀ s m cs;
   marks = λ s m. moves-change _ _ _ s₀ s m;
-  stages = λ r s e m. moves-logged _ _ _ s₀ s m r e;
+  stages = λ r s e n m. moves-logged _ _ _ s₀ s m r e n;
 }
 
 -- a turn that asks for no predicted row

@@ -162,3 +162,7 @@ module _ (E : Env) where
     abbrev pub AnswersNoted : Type 0
     AnswersNoted = (n k t : ℕ) (key : List ℕ) (vs : List WriteVal) → getElem? steps k ≡ some (prediction t key vs) → run E counters steps (suc k) .status ≡ going → k < n
         → (new : Bool) × (r : List ℕ) × (run E counters steps (suc k) .answers ≡ predicted new r ∷ run E counters steps k .answers) × In (took (here k 0 0) r) (run E counters steps n .trace)
+
+    -- the words of each record in the log are in a `reads` event of its site
+    abbrev pub RecordsNoted : Type 0
+    RecordsNoted = (n m : ℕ) (r : Record) → getElem? (run E counters steps n .log) m ≡ some r → In (reads (r .site) (r .words)) (run E counters steps n .trace)
