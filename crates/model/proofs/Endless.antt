@@ -16,7 +16,8 @@ use Rattle.model.specs.Book.Read.{counters, steps}
 use Rattle.model.specs.Outcome.{envOf}
 use Rattle.model.specs.Claims.Refusals.{after, Spends, SpentExact}
 use Rattle.model.specs.Laws.Logic.{at-length, at-below, when-ind, either, le-cases}
-use Rattle.model.proofs.Room.{withRoom, words-append, goes?, unanswered, Later}
+use Rattle.model.proofs.Idle.{goes?}
+use Rattle.model.proofs.Room.{withRoom, words-append, unanswered, Later}
 use Rattle.model.proofs.Follows.{settingOf, step-goes}
 use Rattle.model.specs.Laws.Turns.{when-T}
 

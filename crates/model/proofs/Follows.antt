@@ -9,14 +9,15 @@ use mathlib.Core.List.{List, [], _∷_, _++_}
 use borrow.Author.Tests.{ltb-false}
 use lib.Dec.{eqb, ltb}
 use lib.ListN.{length, getD, getElem?, replicate}
-use Rattle.model.specs.Basics.{when, found, only}
+use Rattle.model.specs.Basics.{when, only}
 use Rattle.model.specs.Book.Syntax.{Counter, noCounter, nextOf, limit, QueryEntry, WriteVal, Entry, IncCounter, CurrentVal, Instr, LookupOrInsertDefault, LookupWithDefault, Lookup, LookupWithFallback, Insert, InsertIfEq, Remove, External, ExternalWithFallback, AssertEq, AssertNe, AssertAnyNe, ReadCounter, dstOf, width, Rule, Step, batch, prediction, ruleAt}
 use Rattle.model.specs.Machine.State.{State, Site, isGoing, reads, took, asks, mask, Bindings, Env, note, lose, change, reply, frame, survivors, predicted}
 use Rattle.model.specs.Machine.Values.{hold, valueOf, valuesOf, listOf, find, Built, isStuck, isSpent, built, push, handOut, write, build}
 use Rattle.model.specs.Machine.Steps.{here, wait, plain, clear, bindOut, anyLive, takeDefault, begin, end, finish, tableOf, stageList, body, instruction, instructions, predict, step}
-use Rattle.model.specs.Laws.Logic.{only-some, found-ind, when-cases}
+use Rattle.model.specs.Laws.Logic.{only-some, when-cases}
 use Rattle.model.specs.Claims.Refusals.{Overdraws, Spends, byLane, byPrediction}
-use Rattle.model.proofs.Room.{Setting, less, Goes, Keeps, Both, Comes, Idle, stay, reply-goes, found-goes, need-goes, when-goes, then-goes, iter-goes, lose-goes, two-goes, default-goes, any-goes, look-goes, call-goes, list-goes, row-goes, serve-goes, lanes-goes, pass-goes, within}
+use Rattle.model.proofs.Idle.{finish-idle, end-idle, turn, turn-idle}
+use Rattle.model.proofs.Room.{Setting, less, Goes, Keeps, Both, Comes, stay, reply-goes, found-goes, need-goes, when-goes, then-goes, iter-goes, lose-goes, two-goes, default-goes, any-goes, look-goes, call-goes, list-goes, row-goes, serve-goes, lanes-goes, pass-goes, within}
 
 module _ (S : Setting) where
   -- where a lane of a lookup-or-insert comes to a spent counter
@@ -44,10 +45,6 @@ module _ (S : Setting) where
   body-goes k j (AssertAnyNe d ops) why = lanes-goes S _ _ (λ i s _. any-goes S (here k j i) d ops s)
   body-goes k j (ReadCounter c dst) why = λ s. stay S (frame (s .bindings) (s .live) (replicate (length (s .live)) (some (nextOf (getD (s .counters) c noCounter)))) s)
 
-  finish-idle : (k : ℕ) (d : Option ℕ) → Idle (finish k d)
-  unfolding finish
-  finish-idle k d s e = rw e
-
   finish-goes : (k : ℕ) (d : Option ℕ) → Keeps S (finish k d) (finish k d)
   unfolding finish
   finish-goes k d s = when-goes S (isGoing (s .status)) (λ s′. note (mask k (s′ .live)) (bindOut d s′)) (λ s′. note (mask k (s′ .live)) (bindOut d s′)) s (λ _. bound d)
@@ -55,10 +52,6 @@ module _ (S : Setting) where
       bound : (d : Option ℕ) → Goes S 0 s (note (mask k (s .live)) (bindOut d s)) (note (mask k (s .live)) (bindOut d s))
       bound none = stay S (note (mask k (s .live)) s)
       bound (some x) = stay S (note (mask k (s .live)) (bindOut (some x) s))
-
-  instruction-idle : (D : Env) (k j : ℕ) (ins : Instr) → Idle (instruction D k j ins)
-  unfolding instruction
-  instruction-idle D k j ins s e = rw e
 
   instruction-goes : (k j : ℕ) (ins : Instr) → Told k j ins → Keeps S (instruction (less S) k j ins) (instruction (S .env) k j ins)
   unfolding instruction
@@ -68,17 +61,7 @@ module _ (S : Setting) where
   instructions-goes : (k : ℕ) (r : Rule) (n : ℕ) → ((j : ℕ) (ins : Instr) → getElem? (r .instrs) j ≡ some ins → Told k j ins) → Keeps S (instructions (less S) k r n) (instructions (S .env) k r n)
   unfolding instructions
   instructions-goes k r n why s =
-      iter-goes S (turn (less S)) (turn (S .env)) (turn-idle (less S)) (turn-idle (S .env)) (λ j s′. found-goes S 0 (getElem? (r .instrs) j) s′ _ _ _ _ (λ ins e. instruction-goes k j ins (why j ins e) s′) (λ _. stay S s′)) n s
-    where
-      turn : Env → ℕ → State → State
-      turn D j s′ = found (getElem? (r .instrs) j) (λ ins. instruction D k j ins s′) (λ _. s′)
-
-      turn-idle : (D : Env) (j : ℕ) → Idle (turn D j)
-      turn-idle D j s′ e = found-ind (λ x. x ≡ s′) (getElem? (r .instrs) j) _ _ (λ ins _. instruction-idle D k j ins s′ e) (λ _. refl)
-
-  end-idle : Idle end
-  unfolding end
-  end-idle s e = rw e
+      iter-goes S (turn (less S) k r) (turn (S .env) k r) (turn-idle (less S) k r) (turn-idle (S .env) k r) (λ j s′. found-goes S 0 (getElem? (r .instrs) j) s′ _ _ _ _ (λ ins e. instruction-goes k j ins (why j ins e) s′) (λ _. stay S s′)) n s
 
   end-goes : (s : State) → Goes S 1 s (end s) (end s)
   unfolding end

@@ -1,3 +1,4 @@
+mod Idle
 mod Room
 mod Follows
 mod Endless

@@ -15,6 +15,7 @@ use Rattle.model.specs.Machine.State.{State, Site, Record, Answer, Statu
 use Rattle.model.specs.Machine.Values.{hold, valueOf, valuesOf, listOf, find, predictedRows, Built, isStuck, isSpent, built, build}
 use Rattle.model.specs.Machine.Steps.{isLive, isNone, lanes, missed, anyNe, readPair, takeColumn, takeDefault, assertAnyNe, tableOf, stageNew, rowStart, predictRow, lookup, invoke, serveMissed, stageList}
 use Rattle.model.specs.Laws.Logic.{and-split, none-some, only-yes, either}
+use Rattle.model.proofs.Idle.{goes?, Idle, missed-idle}
 
 -- with other room for the log
 abbrev pub withRoom : (ℕ → Bool) → Env → Env
@@ -27,12 +28,6 @@ within L E = withRoom (λ n. E .room n && leb n L) E
 pub words-append : (a b : List Record) → logWords (a ++ b) ≡ logWords a + logWords b
 words-append [] b = omega arith
 words-append (r ∷ a) b = omega (arith, words-append a b)
-
-pub goes? : (o : Status) → (o ≡ going) ⊎ (isGoing o ≡ false)
-goes? going = inl refl
-goes? stuck = inr refl
-goes? spent = inr refl
-goes? full = inr refl
 
 going≢spent : going ≢ spent
 going≢spent e = let z : _≡_ {A = ℕ} 0 1 = cc in omega arith
@@ -48,10 +43,6 @@ stuck≢full e = let z : _≡_ {A = ℕ} 0 1 = cc in omega arith
 
 full≢spent : full ≢ spent
 full≢spent e = let z : _≡_ {A = ℕ} 0 1 = cc in omega arith
-
--- a run that has stopped is left as it is
-abbrev pub Idle : (State → State) → Type 0
-Idle f = (s : State) → isGoing (s .status) ≡ false → f s ≡ s
 
 -- n answers, unless it has stopped
 abbrev pub answered : ℕ → Status → ℕ
@@ -168,10 +159,6 @@ module _ (S : Setting) where
         follows = λ l. either (λ p. inl (ap f (p .0) ∙ i u r ∙ sym (i′ u r), rw (i′ u r) (p .1))) (λ p. inr (ap (λ y. y .status) (i s (rw (p .0) refl)) ∙ p .0, rw (i′ u r) (p .1))) (c .follows l);
       }
 
-  iter-idle : (f : ℕ → State → State) → ((i : ℕ) → Idle (f i)) → (n : ℕ) → Idle (iter f n)
-  iter-idle f h zero s e = refl
-  iter-idle f h (suc n) s e = ap (f n) (iter-idle f h n s e) ∙ h n s e
-
   pub iter-goes : (f g : ℕ → State → State) → ((i : ℕ) → Idle (f i)) → ((i : ℕ) → Idle (g i)) → ((i : ℕ) → Keeps (f i) (g i)) → (n : ℕ) → Keeps (iter f n) (iter g n)
   iter-goes f g i i′ h zero s = stay s
   iter-goes f g i i′ h (suc n) s = then-goes 0 (f n) (g n) (i n) (i′ n) (h n) s (iter f n s) (iter g n s) (iter-goes f g i i′ h n s)
@@ -263,10 +250,6 @@ module _ (S : Setting) where
 
   abbrev isMissed : State → ℕ → Bool
   isMissed s i = isLive s i && isNone (getD (s .out) i none)
-
-  missed-idle : (f : ℕ → State → State) → Idle (missed f)
-  unfolding missed
-  missed-idle f s e = iter-idle (λ i s′. when (isMissed s′ i) (f i) s′) (λ i s′ e′. rw e′) (length (s .live)) s e
 
   -- what each live lane keeps
   abbrev pub Lanes : (ℕ → State → State) → (ℕ → State → State) → Type 0
