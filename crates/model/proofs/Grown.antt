@@ -1,8 +1,8 @@
 -- A trace and a log only grow, what is logged is noted, and a run that has stopped stays so.
 use Prim.Native.Nat.{ℕ, zero, suc, _≤_}
 use native.Mathlib.Omega.{arith}
-use mathlib.Core.Path.{_≡_, refl, sym, ap, _∙_}
-use mathlib.Core.Logic.{_⊎_, inl, inr}
+use mathlib.Core.Path.{_≡_, refl, sym, ap, _∙_, subst}
+use mathlib.Core.Logic.{_⊎_, inl, inr, _≢_}
 use mathlib.Core.Option.{some}
 use mathlib.Core.List.{List, [], _∷_, _++_, append-nil, append-assoc}
 use lib.Dec.{T}
@@ -98,6 +98,16 @@ T-going going t = refl
 T-going stuck t = absurd t
 T-going spent t = absurd t
 T-going full t = absurd t
+
+-- the run goes on; it is not stuck, but may have stopped
+abbrev pub Going : State → Type 0
+Going s = T (isGoing (s .status))
+
+abbrev pub Unstuck : State → Type 0
+Unstuck s = s .status ≢ stuck
+
+pub going-unstuck : (s : State) → Going s → Unstuck s
+going-unstuck s g e = subst (λ o. T (isGoing o)) e g
 
 -- the record's words are in a `reads` event of its site
 abbrev pub RecordNoted : List Event → Record → Type 0

@@ -26,5 +26,6 @@ mod TraceComes
 mod TraceAsks
 mod TraceComplete
 mod TraceNotes
+mod TraceEnds
 mod TraceReads
 mod TraceClaims

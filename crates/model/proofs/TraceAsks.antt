@@ -46,7 +46,7 @@ module _ (E : Env) (counters : List Counter) (steps : List Step) where
           let c : Comes E counters steps k j x (LookupOrInsertDefault t (p .0) (p .1) (p .2) (p .3)) = record { rule = rule; lanes = n; columns = columns; isStep = is; isInstr = isInstr; begun = g; goes = T-going _ y; live = T-true _ l } in
           (ap (λ z. z .step) q, omega (arith, ap (λ z. z .instr) q), subst (λ z. Asker E counters steps z t key) (sym q) (lane (p .0) (p .1) (p .2) (p .3) c (p .5)))
 
-      pub asks-before : (j : ℕ) → Asked o t key r (at j .trace) → Sooner j
+      asks-before : (j : ℕ) → Asked o t key r (at j .trace) → Sooner j
       unfolding instructions begin
       asks-before zero h = either (λ e. absurd (asks≢mask o t key r k _ (sym e))) inl (in-cons _ (run E counters steps k .trace) h)
       asks-before (suc j) h =

@@ -19,7 +19,7 @@ use Rattle.model.specs.Laws.Logic.{and-T, some-inj, when-ind, either}
 use Rattle.model.specs.Safety.Lanes.{live-below}
 use Rattle.model.proofs.Grown.{Longer, longer-trans, Grows, grows-refl, grows-trans, grows-map}
 use Rattle.model.proofs.TraceTurns.{moves-in, Own, own-map, Turn, turn-refl, turn-closed, Quiet, look-closed, call-closed, list-closed, pair-closed, any-closed, default-closed, serve-closed}
-use Rattle.model.proofs.TracePasses.{Apart, AtTurn, Later, turns, pass, pass-before, isMissed, lanes-later, lanes-at}
+use Rattle.model.proofs.TracePasses.{Apart, AtTurn, turn-went, Later, turns, pass, pass-before, isMissed, lanes-later, lanes-at}
 use Rattle.model.proofs.Went.{look-went}
 use Rattle.model.proofs.Entries.{hold-values, list-values}
 
@@ -165,15 +165,15 @@ module _ (E : Env) (k j : ℕ) where
 
     pub looked : T (isGoing (looks .status)) → ((r : List ℕ) × (find (tableOf E t .keys) (tableOf E t .rows) key ≡ some r) × Hit r) ⊎ ((find (tableOf E t .keys) (tableOf E t .rows) key ≡ none) × Missed)
     looked g =
-        let a : AtTurn (lookup E (here k j i) t args col (miss i)) i s looks = lanes-at k j _ (λ _ _. Quiet) h s i g l in
-        let c = look-went (here k j i) E (a .start) t args col (miss i) (a .goes) in
+        let a : AtTurn k j (lookup E (here k j i) t args col (miss i)) i s looks = lanes-at k j _ (λ _ _. Quiet) h s i g l in
+        let c = look-went (here k j i) E (a .start) t args col (miss i) (turn-went a g) in
         let same : c .0 ≡ key = some-inj (sym (list-values (s .bindings) i (tableOf E t .keys) args (subst (λ b. listOf b i (tableOf E t .keys) args ≡ some (c .0)) (a .before .bindings) (c .1))) ∙ read) in
         either
         (λ p. inl (p .0, subst (λ y. find (tableOf E t .keys) (tableOf E t .rows) y ≡ some (p .0)) same (p .2), hit a (p .0) (p .1) (c .0) (p .3) (subst (λ z. Apart i z looks) (p .4) (a .after))))
         (λ p. inr (subst (λ y. find (tableOf E t .keys) (tableOf E t .rows) y ≡ none) same (p .0), (a .start, a .before, subst (λ y. Apart i (miss i (note (reads (here k j i) y) (a .start))) looks) same (subst (λ z. Apart i z looks) (p .1) (a .after)))))
         (c .2)
       where
-        hit : (a : AtTurn (lookup E (here k j i) t args col (miss i)) i s looks) (r : List ℕ) (w : ℕ) (ws : List ℕ) → getElem? r col ≡ some w → Apart i (give i w (note (took (here k j i) r) (note (reads (here k j i) ws) (a .start)))) looks → Hit r
+        hit : (a : AtTurn k j (lookup E (here k j i) t args col (miss i)) i s looks) (r : List ℕ) (w : ℕ) (ws : List ℕ) → getElem? r col ≡ some w → Apart i (give i w (note (took (here k j i) r) (note (reads (here k j i) ws) (a .start)))) looks → Hit r
         hit a r w ws e m = (
           gave-took (here k j i) col r w (note (reads (here k j i) ws) (a .start)) looks e (omega (arith, live-below (s .live) i l, a .before .kept .size, size)) m,
           longer-trans _ (s .log) (a .start .log) (looks .log) (a .before .grows .log) (m .grows .log),

@@ -1,5 +1,5 @@
 -- The claims on what the trace notes: every entry and row that a live lane reads, and the row that a prediction answers.
-use Prim.Native.Nat.{ℕ, suc, _+_}
+use Prim.Native.Nat.{ℕ, suc, _+_, _<_}
 use native.Mathlib.Omega.{arith}
 use mathlib.Core.Path.{_≡_, refl, sym, ap, _∙_, subst}
 use mathlib.Core.Logic.{_⊎_, inl, inr, _↔_}
@@ -10,22 +10,22 @@ use lib.Dec.{T, eqb, eqb-refl}
 use lib.ListN.{length, getD, getElem?}
 use Rattle.model.specs.Basics.{only}
 use Rattle.model.specs.Book.Syntax.{Counter, QueryEntry, Var, WriteVal, Instr, LookupOrInsertDefault, LookupWithDefault, Lookup, LookupWithFallback, Insert, InsertIfEq, Remove, External, ExternalWithFallback, AssertEq, AssertNe, AssertAnyNe, ReadCounter, dstOf, width, Step, prediction}
-use Rattle.model.specs.Machine.State.{State, took, asks, isGoing, predicted, Env, frame}
+use Rattle.model.specs.Machine.State.{State, Event, reads, took, asks, isGoing, predicted, Env, frame}
 use Rattle.model.specs.Machine.Values.{laneOf, valueOf, valuesOf, find}
 use Rattle.model.specs.Machine.Steps.{here, tableOf, clear, orStale, bindOut, finish, body, predict, step, run}
 use Rattle.model.specs.Check.{entriesOf, readsOf}
-use Rattle.model.specs.Claims.Trace.{In, readFirst, readThen, ReadsAll, LookupAt, lookupOf, Comes, pre, post, EntriesNoted, RowsNoted, AnswersNoted, RecordsNoted}
+use Rattle.model.specs.Claims.Trace.{In, readFirst, readThen, ReadsAll, LookupAt, lookupOf, Comes, pre, post, StuckStays, CutOff, EntriesNoted, RowsNoted, AnswersNoted, RecordsNoted}
 use Rattle.model.specs.Laws.Logic.{none-some, some-inj, either, found-ind, when-ind, All-at}
 use Rattle.model.specs.Safety.Run.{bind-same, out-column}
 use Rattle.model.specs.Laws.Turns.{need-ind}
-use Rattle.model.proofs.Grown.{in-there, in-cons, in-append, in-left, in-right, in-none, newer-in, going-T, T-going, RecordNoted}
-use Rattle.model.proofs.TracePasses.{when-yes}
+use Rattle.model.proofs.Grown.{in-there, in-cons, in-append, in-left, in-right, in-none, newer-in, going-T, T-going, Unstuck, RecordNoted}
+use Rattle.model.proofs.TracePasses.{At, when-yes}
 use Rattle.model.proofs.Went.{row-went}
 use Rattle.model.proofs.TraceBodies.{Took}
 use Rattle.model.proofs.TraceRun.{run-grows}
-use Rattle.model.proofs.TraceComes.{run-step, lanesPart, lane-live, post-is, part-goes, part-noted}
+use Rattle.model.proofs.TraceComes.{run-step, lanesPart, lane-live, post-is, part-goes, part-noted, part-event, not-before, post-stays, part-status}
 use Rattle.model.proofs.TraceNotes.{noted-more}
-use Rattle.model.proofs.TraceReads.{part-first, part-then, part-took, part-asks}
+use Rattle.model.proofs.TraceReads.{PartCut, part-first, part-then, part-took, part-asks}
 
 -- ## Which entries are read
 
@@ -92,13 +92,28 @@ lookup-dst (AssertAnyNe d ops) f e = absurd (none-some e)
 lookup-dst (ReadCounter c dst) f e = absurd (none-some e)
 
 module _ (E : Env) (counters : List Counter) (steps : List Step) where
+  pub stuck-stays : StuckStays E counters steps
+  stuck-stays n k j i ins c lt e = ap (λ z. z .status) (post-stays E counters steps c (ap isGoing e) n lt) ∙ e
+
+  cut-off : (n k j i : ℕ) (ins : Instr) (c : Comes E counters steps k j i ins) → k < n → PartCut E k j (pre E counters steps c) (going-T (c .goes)) i (lane-live E counters steps c) ins → CutOff E counters steps n c
+  cut-off n k j i ins c lt p = (
+    part-status E counters steps c ∙ p .0,
+    λ x ws le h.
+        let no : (e : Event) → At (here k j x) e → In e (run E counters steps n .trace) → ⊥ = λ e o q. not-before E counters steps c x e o (p .1 x e le o (part-event E counters steps c n lt x e o q)) in
+        either (no (reads (here k j x) ws) refl) (no (took (here k j x) ws) refl) h,
+  )
+
   pub entries-noted : EntriesNoted E counters steps
-  entries-noted n k j i ins c g lt e p =
-      let g′ : T (isGoing (lanesPart E counters steps c .status)) = part-goes E counters steps c (going-T g) in
-      noted-more (lanesPart E counters steps c .trace) (run E counters steps n .trace) (λ x h. part-noted E counters steps c n lt h) (here k j i) (pre E counters steps c .bindings) e
+  entries-noted n k j i ins c u lt e p =
+      let s : State = pre E counters steps c in
+      let z : State = lanesPart E counters steps c in
+      let u′ : Unstuck z = λ q. u (part-status E counters steps c ∙ q) in
+      either
+      (λ q. inl (noted-more (z .trace) (run E counters steps n .trace) (λ x h. part-noted E counters steps c n lt h) (here k j i) (s .bindings) e q))
+      (λ q. inr (cut-off n k j i ins c lt q))
       (either
-      (λ h. part-first E k j (pre E counters steps c) i (lane-live E counters steps c) ins g′ e h)
-      (λ h. part-then E k j (pre E counters steps c) i (lane-live E counters steps c) ins (post E counters steps c) (ap (λ z. z .log) (post-is E counters steps c) ∙ finish-log k (dstOf ins) (lanesPart E counters steps c)) g′ e (h .0) (h .1)) p)
+      (λ h. part-first E k j s (going-T (c .goes)) i (lane-live E counters steps c) ins u′ e h)
+      (λ h. part-then E k j s (going-T (c .goes)) i (lane-live E counters steps c) ins (post E counters steps c) (ap (λ y. y .log) (post-is E counters steps c) ∙ finish-log k (dstOf ins) z) u′ e (h .0) (h .1)) p)
 
   -- the dst of a lane that took it from a row
   took-dst : {k j i : ℕ} {ins : Instr} (c : Comes E counters steps k j i ins) {col d : ℕ} {r : List ℕ} → T (isGoing (lanesPart E counters steps c .status)) → dstOf ins ≡ some d → Took (here k j i) col r (lanesPart E counters steps c)
@@ -111,11 +126,11 @@ module _ (E : Env) (counters : List Counter) (steps : List Step) where
       let g′ : T (isGoing (lanesPart E counters steps c .status)) = part-goes E counters steps c (going-T g) in
       let s : State = pre E counters steps c in
       let d : dstOf ins ≡ some (f .dst) = lookup-dst ins f e in (
-        λ r q. let p = part-took E k j s i (lane-live E counters steps c) key r ins f e g′ (read, q) in (part-noted E counters steps c n lt (p .noted), took-dst c g′ d p),
+        λ r q. let p = part-took E k j s (going-T (c .goes)) i (lane-live E counters steps c) key r ins f e g′ (read, q) in (part-noted E counters steps c n lt (p .noted), took-dst c g′ d p),
         λ args vs q none′.
             let same : f .key ≡ args = ap (λ y. y .key) (some-inj (sym e ∙ ap lookupOf q)) in
             let p = subst (λ x. (r : List ℕ) × (In (asks (here k j i) (f .table) key r) (body E k j x (clear s) .trace) × Took (here k j i) (f .col) r (body E k j x (clear s)))) (sym q)
-            (part-asks E k j s i (lane-live E counters steps c) (f .table) args vs (f .col) (f .dst) key (subst (λ x. T (isGoing (body E k j x (clear s) .status))) q g′) (subst (λ x. valuesOf (s .bindings) i x ≡ some key) same read, none′)) in
+            (part-asks E k j s (going-T (c .goes)) i (lane-live E counters steps c) (f .table) args vs (f .col) (f .dst) key (subst (λ x. T (isGoing (body E k j x (clear s) .status))) q g′) (subst (λ x. valuesOf (s .bindings) i x ≡ some key) same read, none′)) in
             (p .0, part-noted E counters steps c n lt (p .1 .0), part-noted E counters steps c n lt (p .1 .1 .noted), took-dst c g′ d (p .1 .1)),
       )
 
@@ -129,10 +144,10 @@ module _ (E : Env) (counters : List Counter) (steps : List Step) where
       let P : State → Type 0 = λ z. T (isGoing (z .status)) → (new : Bool) × (r : List ℕ) × (z .answers ≡ predicted new r ∷ s .answers) × In (took (here k 0 0) r) (z .trace) in
       need-ind P (only (eqb (length key) (tableOf E t .keys) && eqb (length key + length vs) (width (tableOf E t))) (some key)) s _ (λ g. absurd g) (λ _ _.
       found-ind P (find (tableOf E t .keys) (tableOf E t .rows) key) _ _ (λ r _ g. (false, r, refl, (0, refl))) (λ _ g.
-      let p = row-went (here k 0 0) E s (λ _. none) t key vs _ g in
-      either
+      either (λ p. either
       (λ q. (false, p .0, ap (λ z. z .answers) (q .1), subst (λ z. In (took (here k 0 0) (p .0)) (z .trace)) (sym (q .1)) (0, refl)))
-      (λ q. (true, p .0, ap (λ z. z .answers) (q .3), subst (λ z. In (took (here k 0 0) (p .0)) (z .trace)) (sym (q .3)) (0, refl))) (p .1)))
+      (λ q. (true, p .0, ap (λ z. z .answers) (q .3), subst (λ z. In (took (here k 0 0) (p .0)) (z .trace)) (sym (q .3)) (0, refl))) (p .1))
+      (λ p. absurd (p .0 g)) (row-went (here k 0 0) E s (λ _. none) t key vs _ (λ q. subst (λ o. T (isGoing o)) q g))))
 
   pub answers-noted : AnswersNoted E counters steps
   unfolding step

@@ -15,9 +15,11 @@ use Rattle.model.specs.Machine.Steps.{here, clear, bindOut, anyLive, beg
 use Rattle.model.specs.Claims.Trace.{In, Comes, pre, post}
 use Rattle.model.specs.Laws.Logic.{T-and, when-ind, at-below, either}
 use Rattle.model.specs.Safety.Run.{any-live}
+use Rattle.model.proofs.Idle.{end-idle, instructions-stay}
+use Rattle.model.proofs.Endless.{still}
 use Rattle.model.proofs.Grown.{newer-in, newer-cases, going-T, Grows, grows-refl, grows-trans, grows-note}
-use Rattle.model.proofs.TracePasses.{when-yes}
-use Rattle.model.proofs.TraceRun.{EventAt, GrowsAt, grows-at, instructions-grow, run-grows}
+use Rattle.model.proofs.TracePasses.{At, when-yes}
+use Rattle.model.proofs.TraceRun.{EventAt, at-both, InInstrs, GrowsAt, grows-at, instructions-grow, begin-grows, run-grows, run-event}
 
 pub asks≢mask : (o : Site) (t : ℕ) (key ws : List ℕ) (k : ℕ) (l : List Bool) → asks o t key ws ≡ mask k l → ⊥
 asks≢mask o t key ws k l e = let z : _≡_ {A = ℕ} 0 1 = cc in omega arith
@@ -74,9 +76,41 @@ module _ (E : Env) (counters : List Counter) (steps : List Step) where
         newer-in _ (post E counters steps c .trace) (run E counters steps n .trace) (post-grows n lt .trace)
         (subst (λ z. In e (z .trace)) (sym post-is) (newer-in _ (lanesPart .trace) _ (finish-grows k (dstOf ins) lanesPart .trace) h))
 
-    -- who asked at the instruction's sites had asked when the lanes' part ended
-    pub part-asked : (n : ℕ) → k < n → (x u : ℕ) (key ws : List ℕ) → In (asks (here k j x) u key ws) (run E counters steps n .trace) → In (asks (here k j x) u key ws) (lanesPart .trace)
-    part-asked n lt x u key ws p = either
-        (λ q. absurd (either (λ (v : (k ≡ k) × (suc j ≤ j)). omega (arith, v .1)) (λ (v : suc k ≤ k). omega arith) q))
-        (λ q. either (λ v. absurd (asks≢mask _ _ _ _ _ _ (v .1))) (λ v. v) (newer-cases (λ e. (l : List Bool) × (e ≡ mask k l)) (lanesPart .trace) (finish k (dstOf ins) lanesPart .trace) (finish-grows k (dstOf ins) lanesPart .trace) (subst (λ z. In (asks (here k j x) u key ws) (z .trace)) post-is q)))
+    -- an event of the instruction's sites was there when the lanes' part ended,
+    pub part-event : (n : ℕ) → k < n → (x : ℕ) (e : Event) → At (here k j x) e → In e (run E counters steps n .trace) → In e (lanesPart .trace)
+    part-event n lt x e o p = either
+        (λ q. absurd (either (λ (v : (k ≡ k) × (suc j ≤ j)). omega (arith, v .1)) (λ (v : suc k ≤ k). omega arith) (at-both Past _ (here k j x) e o q)))
+        (λ q. either (λ v. absurd (subst (At (here k j x)) (v .1) o)) (λ v. v) (newer-cases (λ y. (l : List Bool) × (y ≡ mask k l)) (lanesPart .trace) (finish k (dstOf ins) lanesPart .trace) (finish-grows k (dstOf ins) lanesPart .trace) (subst (λ z. In e (z .trace)) post-is q)))
         (newer-cases (EventAt Past (λ _. Unit {0})) (post E counters steps c .trace) (run E counters steps n .trace) (post-grows n lt .trace) p)
+
+    -- and not before it began
+    pub not-before : (x : ℕ) (e : Event) → At (here k j x) e → In e (pre E counters steps c .trace) → ⊥
+    unfolding instructions
+    not-before x e o h =
+        let R : Rule = ruleAt (E .rules) (c .rule) in
+        let s : State = run E counters steps k in
+        let s₀ : State = begin k R (c .lanes) (c .columns) s in
+        either
+        (λ q. let p : (k ≡ k) × (0 ≤ j) × (j < j) = at-both (InInstrs k 0 j) _ (here k j x) e o q in omega (arith, p .2))
+        (λ q. either (at-both (λ _. ⊥) _ (here k j x) e o) (λ p. omega (arith, run-event E counters steps k (here k j x) e o p)) (newer-cases (EventAt (λ _. ⊥) (λ y. y ≡ k)) (s .trace) (s₀ .trace) (begin-grows E (λ _. ⊥) k R (c .lanes) (c .columns) s .trace) q))
+        (newer-cases (EventAt (InInstrs k 0 j) (λ y. y ≡ k)) (s₀ .trace) (pre E counters steps c .trace) (instructions-grow E k R s₀ 0 j (omega arith) .trace) h)
+
+    -- ## Where the run stops in it
+
+    pub post-stays : isGoing (post E counters steps c .status) ≡ false → (n : ℕ) → k < n → run E counters steps n ≡ post E counters steps c
+    unfolding step
+    post-stays ng n lt =
+        let R : Rule = ruleAt (E .rules) (c .rule) in
+        let m : ℕ = length (R .instrs) in
+        let s₀ : State = begin k R (c .lanes) (c .columns) (run E counters steps k) in
+        let e : instructions E k R m s₀ ≡ post E counters steps c = instructions-stay E k R (suc j) m (at-below (R .instrs) j (c .isInstr)) s₀ ng in
+        let e′ : run E counters steps (suc k) ≡ post E counters steps c = run-step k _ (c .isStep) (c .begun) ∙ ap end e ∙ end-idle (post E counters steps c) ng in
+        still E counters steps (suc k) n lt (ap (λ z. isGoing (z .status)) e′ ∙ ng) ∙ e′
+
+    pub part-status : post E counters steps c .status ≡ lanesPart .status
+    unfolding finish
+    part-status = ap (λ z. z .status) post-is ∙ when-ind (λ z. z .status ≡ lanesPart .status) (isGoing (lanesPart .status)) _ lanesPart (λ _. bound (dstOf ins)) refl
+      where
+        bound : (d : Option ℕ) → bindOut d lanesPart .status ≡ lanesPart .status
+        bound none = refl
+        bound (some x) = refl

@@ -1,9 +1,9 @@
 -- Each asker has its `asks` event, unless the run was cut off before its row.
-use Prim.Native.Nat.{ℕ, suc, _+_, _≤_, _<_}
+use Prim.Native.Nat.{ℕ, suc, _+_, _≤_}
 use native.Mathlib.Omega.{arith}
 use mathlib.Core.Path.{_≡_, refl, sym, _∙_, subst}
 use mathlib.Core.Logic.{_⊎_, inl, inr}
-use mathlib.Core.Bool.{Bool, true, false, _&&_, not}
+use mathlib.Core.Bool.{Bool, true, false, _&&_}
 use mathlib.Core.Option.{none, some}
 use mathlib.Core.List.{List, [], _∷_, _++_}
 use lib.Dec.{T, T-not, eqb}
@@ -12,19 +12,18 @@ use Rattle.model.specs.Basics.{only, first}
 use Rattle.model.specs.Book.Syntax.{Counter, QueryEntry, WriteVal, Instr, LookupOrInsertDefault, width, Step, prediction}
 use Rattle.model.specs.Machine.State.{State, Site, Event, Status, reads, asks, stuck, spent, full, isGoing, Bindings, Env, stop, note, withCounters, frame, logWords}
 use Rattle.model.specs.Machine.Values.{hold, valuesOf, listOf, find, predictedRows, Built, isStuck, isSpent, built, build}
-use Rattle.model.specs.Machine.Steps.{here, tableOf, wait, clear, isLive, lanes, missed, stageNew, rowStart, predictRow, takeColumn, serveMissed, body, predict, step, run}
-use Rattle.model.specs.Claims.Trace.{In, Misses, pre, Asker, lane, predicts, AsksComplete}
-use Rattle.model.specs.Laws.Logic.{and-T, T-cases, found-ind, either, some-inj, none-some}
-use Rattle.model.specs.Safety.Lanes.{live-below}
+use Rattle.model.specs.Machine.Steps.{here, tableOf, wait, clear, lanes, missed, stageNew, rowStart, predictRow, takeColumn, serveMissed, body, predict, step, run}
+use Rattle.model.specs.Claims.Trace.{In, Misses, pre, lane, predicts, AsksComplete}
+use Rattle.model.specs.Laws.Logic.{T-cases, found-ind, either, some-inj, none-some}
 use Rattle.model.specs.Laws.Turns.{need-ind, room-ind}
-use Rattle.model.proofs.Grown.{newer-in, newer-cases, going-T}
+use Rattle.model.proofs.Idle.{not-going, missed-idle}
+use Rattle.model.proofs.Grown.{newer-in, newer-cases, going-T, Going}
 use Rattle.model.proofs.Entries.{hold-values, list-values}
 use Rattle.model.proofs.TraceTurns.{Moves, moves-refl, moves-note, moves-counters, moves-in, moves-stop, Turn, turn-refl, turn-closed, Quiet, column-closed}
-use Rattle.model.proofs.TracePasses.{when-yes, Later, turns, Had, pass, pass-before, pass-after, pass-asks, isMissed, missed-then, lanes-later, lanes-quiet}
+use Rattle.model.proofs.TracePasses.{Unread, AtTurn, Later, missed-cut, lanes-later, lanes-quiet}
 use Rattle.model.proofs.TraceBodies.{none-at, Waits, waits, firstTurn, first-turn, Served, serve-turn, looked}
-use Rattle.model.proofs.TraceRun.{EventAt, Among, GrowsAmong, run-grows}
-use Rattle.model.proofs.TraceComes.{run-step, lane-live, part-goes, post-grows, part-noted, part-asked}
-use Rattle.model.proofs.TraceAsks.{asks-before, asks-sound}
+use Rattle.model.proofs.TraceRun.{EventAt, Among, GrowsAmong, run-grows, run-event}
+use Rattle.model.proofs.TraceComes.{run-step, lane-live, part-goes, post-grows, part-noted, part-event, not-before}
 
 -- ## A turn
 
@@ -95,81 +94,48 @@ module _ (E : Env) (k j t : ℕ) (args : List QueryEntry) (vs : List WriteVal) (
   abbrev s₁ : State
   s₁ = lanes (firstTurn E k j ins) s
 
-  abbrev to : ℕ → State
-  to n = turns isMissed f s₁ n
-
   abbrev A : ℕ → State → ℕ → List ℕ → Type 0
   A = Served E k j dst t args
 
   h : (x : ℕ) (s : State) → Turn (here k j x) (A x s) s (f x s)
   h = serve-turn E k j dst t args vs col
 
-  abbrev n : ℕ
-  n = length (s₁ .live)
-
   later : Later s s₁
   later = lanes-later k j (firstTurn E k j ins) (λ _ _. Quiet) (first-turn E k j ins) s
-
-  below : i < n
-  below = omega (arith, live-below (s .live) i l, later .kept .lanes)
-
-  -- a lane that has its turn has it in a state that goes, and so did all before
-  had-goes : (m q y : ℕ) → Had k j isMissed f A h s₁ m q y → (x : ℕ) → x ≤ y → T (isGoing (to x .status))
-  had-goes m q y p x le = pass k j isMissed f A h s₁ x y le .grows .goes (and-T (isGoing (to y .status)) _ (and-T (isLive (to y) y) _ (p .2) .0) .0)
 
   -- no lane from i on asks after s
   abbrev NoMore : State → Type 0
   NoMore s′ = (y u : ℕ) (ws r : List ℕ) → i ≤ y → In (asks (here k j y) u ws r) (s′ .trace) → In (asks (here k j y) u ws r) (s .trace)
 
-  abbrev Outcome : Type 0
-  Outcome = ((r : List ℕ) × In (asks (here k j i) t key r) (missed f s₁ .trace)) ⊎ ((T (isGoing (missed f s₁ .status)) → ⊥) × NoMore (missed f s₁))
+  abbrev Outcome : State → Type 0
+  Outcome z = ((r : List ℕ) × In (asks (here k j i) t key r) (z .trace)) ⊎ ((Going z → ⊥) × NoMore z)
 
-  quiet-start : NoMore (to i)
-  quiet-start y u ws r le p = either (λ had. absurd (omega (arith, had .1))) (lanes-quiet k j _ (first-turn E k j ins) s (here k j y) u ws r) (pass-asks k j isMissed f A h s₁ 0 i (omega arith) y u ws r p)
+  -- the first pass asks for nothing
+  quiet : (z : State) → Unread k j i s₁ z → NoMore z
+  quiet z m y u ws r le p = lanes-quiet k j _ (first-turn E k j ins) s (here k j y) u ws r (m y (asks (here k j y) u ws r) le (refl, tt) p)
 
-  -- the run had stopped before
-  stopped : T (not (isGoing (to i .status))) → Outcome
-  unfolding missed
-  stopped ng = inr (
-    λ g. T-not (isGoing (to i .status)) ng (pass k j isMissed f A h s₁ i n (omega (arith, below)) .grows .goes g),
-    λ y u ws r le p. either (λ had. absurd (T-not (isGoing (to i .status)) ng (had-goes i n y had i le))) (quiet-start y u ws r le) (pass-asks k j isMissed f A h s₁ i n (omega (arith, below)) y u ws r p),
-  )
+  turned : AtTurn k j (f i) i s₁ (missed f s₁) → Outcome (missed f s₁)
+  turned a = either
+      (λ p. inl (p .0, moves-in (a .after) (p .1)))
+      (λ p. subst Outcome (sym (a .last (p .0))) (inr (
+        p .0,
+        λ y u ws r le q. either (λ own. absurd (asks≢reads _ _ _ _ _ _ (own .1))) (quiet (a .start) (a .unread) y u ws r le) (newer-cases (Reading (here k j i)) (a .start .trace) (f i (a .start) .trace) (p .1 .grows .trace) q),
+      )))
+      (serve-cut E (here k j i) (a .start) dst t args vs col key (subst (λ b. valuesOf b i args ≡ some key) (sym (a .before .bindings ∙ later .bindings)) (misses .0)))
 
-  -- lane i has its turn
-  served : T (isMissed (to i) i) → Outcome
-  unfolding missed
-  served m =
-      let e : to (suc i) ≡ f i (to i) = when-yes (isMissed (to i) i) (f i) (to i) m in
-      let read : valuesOf (to i .bindings) i args ≡ some key = subst (λ b. valuesOf b i args ≡ some key) (sym (pass-before k j isMissed f A h s₁ i .bindings ∙ later .bindings)) (misses .0) in
-      either
-      (λ p. inl (p .0, moves-in (pass-after k j isMissed f A h s₁ i n below) (subst (λ z. In (asks (here k j i) t key (p .0)) (z .trace)) (sym e) (p .1))))
-      (λ p. let ng : T (isGoing (to (suc i) .status)) → ⊥ = λ g. p .0 (subst (λ z. T (isGoing (z .status))) e g) in
-      inr (
-        λ g. ng (pass k j isMissed f A h s₁ (suc i) n below .grows .goes g),
-        λ y u ws r le q. either
-            (λ had. absurd (ng (had-goes (suc i) n y had (suc i) (had .0))))
-            (λ v. either (λ own. absurd (asks≢reads _ _ _ _ _ _ (own .1))) (quiet-start y u ws r le) (newer-cases (Reading (here k j i)) (to i .trace) (f i (to i) .trace) (p .1 .grows .trace) (subst (λ z. In (asks (here k j y) u ws r) (z .trace)) e v)))
-            (pass-asks k j isMissed f A h s₁ (suc i) n below y u ws r q),
-      ))
-      (serve-cut E (here k j i) (to i) dst t args vs col key read)
-
-  serve-pass : Outcome
+  serve-pass : Outcome (missed f s₁)
   serve-pass = either
-      (λ g. served (either
+      (λ g. either
       (λ p. absurd (none-some (sym (misses .1) ∙ p .1)))
       (λ p. let w : Waits i s s₁ = waits i (reads (here k j i) key) s (p .1 .0) s₁ l empty (p .1 .1) (p .1 .2) in
-      missed-then k j f A h s₁ i (to i) (pass-before k j isMissed f A h s₁ i) (w .live) (w .out) g)
-      (looked E k j t args col (λ _. wait) (first-turn E k j ins) s size i l key (misses .0) (pass-before k j isMissed f A h s₁ i .grows .goes g))))
-      stopped
-      (T-cases (isGoing (to i .status)))
+      either turned (λ c. inr (c .stopped, quiet (missed f s₁) (c .unread))) (missed-cut k j f A h s₁ i (w .live) (w .out)))
+      (looked E k j t args col (λ _. wait) (first-turn E k j ins) s size i l key (misses .0) g))
+      (λ g. subst Outcome (sym (missed-idle f s₁ (not-going (s₁ .status) (T-not (isGoing (s₁ .status)) g)))) (inr (T-not (isGoing (s₁ .status)) g, quiet s₁ (λ y e le o p. p))))
+      (T-cases (isGoing (s₁ .status)))
 
 -- ## In a run
 
 module _ (E : Env) (counters : List Counter) (steps : List Step) where
-  -- an event of a site of step k is in no trace of the steps before
-  not-yet : (k j i t : ℕ) (key r : List ℕ) → In (asks (here k j i) t key r) (run E counters steps k .trace) → ⊥
-  not-yet k j i t key r p = omega (arith, asks-sound E counters steps k (here k j i) t key r p .1)
-
   pub asks-complete : AsksComplete E counters steps
   unfolding body step
   asks-complete n o t key (lane {k} {j} {i} args vs col dst c misses) lt =
@@ -178,10 +144,7 @@ module _ (E : Env) (counters : List Counter) (steps : List Step) where
       (λ p. inl (p .0, part-noted E counters steps c n lt (p .1)))
       (λ p. inr (
         λ g. p .0 (part-goes E counters steps c (post-grows E counters steps c (suc k) (omega arith) .goes (going-T g))),
-        λ y u ws r le q. either
-            (not-yet k j y u ws r)
-            (λ (v : (k ≡ k) × (j < j) × Asker E counters steps (here k j y) u ws). omega (arith, v .1))
-            (asks-before E counters steps (here k j y) u ws r k (c .rule) (c .lanes) (c .columns) (c .isStep) (c .begun) j (p .1 y u ws r le (part-asked E counters steps c n lt y u ws r q))),
+        λ y u ws r le q. not-before E counters steps c y (asks (here k j y) u ws r) (refl, tt) (p .1 y u ws r le (part-event E counters steps c n lt y (asks (here k j y) u ws r) (refl, tt) q)),
       ))
       (serve-pass E k j t args vs col dst (clear s) (length-replicate (length (s .live)) none) i (lane-live E counters steps c) (none-at (length (s .live)) i) key misses)
   asks-complete n o t key (predicts {k} vs is g none′) lt =
@@ -195,7 +158,7 @@ module _ (E : Env) (counters : List Counter) (steps : List Step) where
         λ y. p .0 (subst (λ x. T (isGoing (x .status))) e (going-T y)),
         λ y u ws r le q. either
             (λ (v : Among (suc k) n k). omega (arith, v .0))
-            (λ v. either (λ own. asks≢reads _ _ _ _ _ _ (own .1)) (not-yet k 0 y u ws r) (newer-cases (Reading (here k 0 0)) (s .trace) (z .trace) (p .1 .grows .trace) (subst (λ x. In (asks (here k 0 y) u ws r) (x .trace)) e v)))
+            (λ v. either (λ own. asks≢reads _ _ _ _ _ _ (own .1)) (λ w. omega (arith, run-event E counters steps k (here k 0 y) (asks (here k 0 y) u ws r) (refl, tt) w)) (newer-cases (Reading (here k 0 0)) (s .trace) (z .trace) (p .1 .grows .trace) (subst (λ x. In (asks (here k 0 y) u ws r) (x .trace)) e v)))
             (newer-cases (EventAt (λ o. Among (suc k) n (o .step)) (Among (suc k) n)) (run E counters steps (suc k) .trace) (run E counters steps n .trace) (more .trace) q),
       ))
       (predict-cut E (here k 0 0) s t key vs none′)

@@ -7,15 +7,16 @@ use mathlib.Core.Logic.{_⊎_, inl, inr, _≢_}
 use mathlib.Core.Bool.{Bool, true, false, _&&_}
 use mathlib.Core.Option.{none, some}
 use mathlib.Core.List.{List}
-use lib.Dec.{T}
+use lib.Dec.{T, T-not}
 use lib.ListN.{length, getD}
 use Rattle.model.specs.Basics.{iter, when}
-use Rattle.model.specs.Machine.State.{State, Site, Record, Event, mask, reads, took, asks, isGoing}
+use Rattle.model.specs.Machine.State.{State, Site, Record, Event, mask, reads, took, asks, Status, isGoing}
 use Rattle.model.specs.Machine.Steps.{here, isLive, isNone, lanes, missed}
 use Rattle.model.specs.Claims.Trace.{In}
-use Rattle.model.specs.Laws.Logic.{and-T, T-and, either, le-cases, when-cases}
+use Rattle.model.specs.Laws.Logic.{and-T, T-and, T-cases, either, le-cases, when-cases}
 use Rattle.model.specs.Safety.Lanes.{live-below}
-use Rattle.model.proofs.Grown.{newer-cases}
+use Rattle.model.proofs.Idle.{not-going, Idle, iter-stays}
+use Rattle.model.proofs.Grown.{newer-cases, Going, Unstuck, going-unstuck}
 use Rattle.model.proofs.TraceTurns.{Moves, moves-refl, moves-trans, moves-map, Own, Turn, Quiet}
 
 -- an event of another lane than i
@@ -29,12 +30,39 @@ Other i (asks p t key ws) = p .lane ≢ i
 abbrev pub Apart : ℕ → State → State → Type 0
 Apart i = Moves (λ x. x ≢ i) (Other i) (λ r. r .site .lane ≢ i)
 
--- the turn of lane i, after which the run goes on
-pub record AtTurn (f : State → State) (i : ℕ) (s s′ : State) : Type 0 where
+-- an event of a site
+abbrev pub At : Site → Event → Type 0
+At o = Own o (λ _ _. Unit {0})
+
+same-site : (o p : Site) (A B : ℕ → List ℕ → Type 0) (e : Event) → Own o A e → Own p B e → o ≡ p
+same-site o p A B (mask k l) h q = absurd h
+same-site o p A B (reads x ws) h q = sym h ∙ q
+same-site o p A B (took x ws) h q = sym h ∙ q
+same-site o p A B (asks x t key ws) h q = sym (h .0) ∙ q .0
+
+-- no lane from i on has a new event
+abbrev pub Unread : ℕ → ℕ → ℕ → State → State → Type 0
+Unread k j i s s′ = (x : ℕ) (e : Event) → i ≤ x → At (here k j x) e → In e (s′ .trace) → In e (s .trace)
+
+-- the turn of lane i, the last one if the run stops in it
+pub record AtTurn (k j : ℕ) (f : State → State) (i : ℕ) (s s′ : State) : Type 0 where
   pub start : State
   pub before : Apart i s start
-  pub goes : T (isGoing (f start .status))
+  pub unread : Unread k j i s start
   pub after : Apart i (f start) s′
+  pub last : (Going (f start) → ⊥) → s′ ≡ f start
+
+pub turn-unstuck : {k j : ℕ} {f : State → State} {i : ℕ} {s s′ : State} (a : AtTurn k j f i s s′) → Unstuck s′ → Unstuck (f (a .start))
+turn-unstuck {f = f} a u e = u (ap (λ z. z .status) (a .last (λ g. going-unstuck (f (a .start)) g e)) ∙ e)
+
+pub turn-went : {k j : ℕ} {f : State → State} {i : ℕ} {s s′ : State} (a : AtTurn k j f i s s′) → Going s′ → Unstuck (f (a .start))
+turn-went {f = f} a g = going-unstuck (f (a .start)) (a .after .grows .goes g)
+
+-- the run had stopped before lane i had its turn
+pub record CutAt (k j i : ℕ) (s s′ : State) : Type 0 where
+  pub stopped : Going s′ → ⊥
+  pub before : Apart i s s′
+  pub unread : Unread k j i s s′
 
 own-other : (k j x i : ℕ) (A : ℕ → List ℕ → Type 0) (e : Event) → x ≢ i → Own (here k j x) A e → Other i e
 own-other k j x i A (mask l m) n h = h
@@ -49,6 +77,11 @@ when-yes false f s t = absurd t
 -- turns of f where the test b passes
 abbrev pub turns : (State → ℕ → Bool) → (ℕ → State → State) → State → ℕ → State
 turns b f s n = iter (λ i s′. when (b s′ i) (f i) s′) n s
+
+-- where each turn ends with Z, the pass does
+pub turns-end : (Z : Status → Type 0) (b : State → ℕ → Bool) (f : ℕ → State → State) → ((x : ℕ) (s : State) → T (b s x) → Unstuck (f x s) → Z (f x s .status)) → (s : State) (n : ℕ) → Z (s .status) → Unstuck (turns b f s n) → Z (turns b f s n .status)
+turns-end Z b f h s zero z u = z
+turns-end Z b f h s (suc n) z u = when-cases (λ y. Unstuck y → Z (y .status)) (b (turns b f s n) n) (f n) (turns b f s n) (λ t. h n (turns b f s n) t) (λ _. turns-end Z b f h s n z) u
 
 -- at sites of step k and instruction j; A is what lane x asks for in a state
 module _ (k j : ℕ) (b : State → ℕ → Bool) (f : ℕ → State → State) (A : ℕ → State → ℕ → List ℕ → Type 0) (h : (x : ℕ) (s : State) → Turn (here k j x) (A x s) s (f x s)) (s : State) where
@@ -89,7 +122,7 @@ module _ (k j : ℕ) (b : State → ℕ → Bool) (f : ℕ → State → State) 
       later x p = (p .0, omega (arith, p .1), p .2)
 
   -- turns of other lanes than i
-  pub pass-apart : (m n i : ℕ) → (Had m n i → ⊥) → m ≤ n → Apart i (to m) (to n)
+  pass-apart : (m n i : ℕ) → (Had m n i → ⊥) → m ≤ n → Apart i (to m) (to n)
   pass-apart m n i never le = moves-map (λ x p. other x p) (λ e p. own-other k j (p .0) i (A (p .0) (to (p .0))) e (other (p .0) (p .1)) (p .2)) (λ r p q. other (p .0) (p .1) (sym (ap (λ y. y .lane) (p .2)) ∙ q)) (to m) (to n) (pass m n le)
     where
       other : (x : ℕ) → Had m n x → x ≢ i
@@ -99,17 +132,32 @@ module _ (k j : ℕ) (b : State → ℕ → Bool) (f : ℕ → State → State) 
   pub pass-before : (i : ℕ) → Apart i s (to i)
   pass-before i = pass-apart 0 i i (λ p. omega (arith, p .1)) (omega arith)
 
-  pub pass-after : (i n : ℕ) → i < n → Apart i (to (suc i)) (to n)
+  pass-after : (i n : ℕ) → i < n → Apart i (to (suc i)) (to n)
   pass-after i n lt = pass-apart (suc i) n i (λ p. omega (arith, p .0)) lt
 
-  pub turn-at : (i n : ℕ) → i < n → T (b (to i) i) → T (isGoing (to n .status)) → AtTurn (f i) i s (to n)
-  turn-at i n lt t g =
-      let rest : Apart i (f i (to i)) (to n) = subst (λ z. Apart i z (to n)) (when-yes (b (to i) i) (f i) (to i) t) (pass-after i n lt) in
-      record { start = to i; before = pass-before i; goes = rest .grows .goes g; after = rest }
+  -- whose event is new: of a lane that had its turn
+  pass-events : (m n : ℕ) → m ≤ n → (x : ℕ) (e : Event) → At (here k j x) e → In e (to n .trace) → Had m n x ⊎ In e (to m .trace)
+  pass-events m n le x e o p = either
+      (λ q. inl (subst (Had m n) (ap (λ y. y .lane) (same-site (here k j (q .0)) (here k j x) (A (q .0) (to (q .0))) _ e (q .2) o)) (q .1)))
+      inr (newer-cases (HadEvent m n) (to m .trace) (to n .trace) (pass m n le .grows .trace) p)
 
-  -- who asked between: a lane that had its turn
-  pub pass-asks : (m n : ℕ) → m ≤ n → (x u : ℕ) (key ws : List ℕ) → In (asks (here k j x) u key ws) (to n .trace) → Had m n x ⊎ In (asks (here k j x) u key ws) (to m .trace)
-  pass-asks m n le x u key ws p = either (λ q. inl (subst (Had m n) (sym (ap (λ y. y .lane) (q .2 .0))) (q .1))) inr (newer-cases (HadEvent m n) (to m .trace) (to n .trace) (pass m n le .grows .trace) p)
+  -- lane i has its turn, unless the run has stopped before
+  turn-or-cut : ((x : ℕ) → Idle (λ z. when (b z x) (f x) z)) → (i n : ℕ) → i < n → (Going (to i) → T (b (to i) i)) → AtTurn k j (f i) i s (to n) ⊎ CutAt k j i s (to n)
+  turn-or-cut idle i n lt has = either (λ g. inl (turned (has g))) (λ g. inr (cut (T-not (isGoing (to i .status)) g))) (T-cases (isGoing (to i .status)))
+    where
+      unread : Unread k j i s (to i)
+      unread x e le o p = either (λ had. absurd (omega (arith, had .1))) (λ q. q) (pass-events 0 i (omega arith) x e o p)
+
+      stays : (m : ℕ) → m ≤ n → (Going (to m) → ⊥) → to n ≡ to m
+      stays m le ng = iter-stays _ idle m n le s (not-going (to m .status) ng)
+
+      turned : T (b (to i) i) → AtTurn k j (f i) i s (to n)
+      turned t =
+          let e : to (suc i) ≡ f i (to i) = when-yes (b (to i) i) (f i) (to i) t in
+          record { start = to i; before = pass-before i; unread = unread; after = subst (λ z. Apart i z (to n)) e (pass-after i n lt); last = subst (λ z. (Going z → ⊥) → to n ≡ z) e (stays (suc i) lt) }
+
+      cut : (Going (to i) → ⊥) → CutAt k j i s (to n)
+      cut ng = subst (CutAt k j i s) (sym (stays i (omega arith) ng)) (record { stopped = ng; before = pass-before i; unread = unread })
 
 -- ## The two passes
 
@@ -137,25 +185,26 @@ lanes-quiet k j f h s o u key ws p =
 
 module _ (k j : ℕ) (f : ℕ → State → State) (A : ℕ → State → ℕ → List ℕ → Type 0) (h : (x : ℕ) (s : State) → Turn (here k j x) (A x s) s (f x s)) (s : State) (i : ℕ) where
   -- before its turn a lane is as at the start
-  pub live-then : (s′ : State) → Apart i s s′ → T (getD (s .live) i false) → T (isGoing (s′ .status)) → T (isLive s′ i)
+  live-then : (s′ : State) → Apart i s s′ → T (getD (s .live) i false) → T (isGoing (s′ .status)) → T (isLive s′ i)
   live-then s′ m l g = T-and (isGoing (s′ .status)) (getD (s′ .live) i false) g (subst T (sym (m .kept .marks i (λ n. n refl))) l)
 
-  pub missed-then : (s′ : State) → Apart i s s′ → T (getD (s .live) i false) → getD (s .out) i none ≡ none → T (isGoing (s′ .status)) → T (isMissed s′ i)
+  missed-then : (s′ : State) → Apart i s s′ → T (getD (s .live) i false) → getD (s .out) i none ≡ none → T (isGoing (s′ .status)) → T (isMissed s′ i)
   missed-then s′ m l e g = T-and (isLive s′ i) (isNone (getD (s′ .out) i none)) (live-then s′ m l g) (rw (m .kept .dsts i (λ n. n refl) ∙ e) tt)
 
-  pub lanes-at : T (isGoing (lanes f s .status)) → T (getD (s .live) i false) → AtTurn (f i) i s (lanes f s)
+  pub lanes-cut : T (getD (s .live) i false) → AtTurn k j (f i) i s (lanes f s) ⊎ CutAt k j i s (lanes f s)
   unfolding lanes
-  lanes-at g l =
-      let n : ℕ = length (s .live) in
-      turn-at k j isLive f A h s i n (live-below (s .live) i l)
-      (live-then _ (pass-before k j isLive f A h s i) l (pass k j isLive f A h s i n (omega (arith, live-below (s .live) i l)) .grows .goes g)) g
+  lanes-cut l = turn-or-cut k j isLive f A h s (λ x z e. rw e) i (length (s .live)) (live-below (s .live) i l) (live-then _ (pass-before k j isLive f A h s i) l)
 
-  pub missed-at : T (isGoing (missed f s .status)) → T (getD (s .live) i false) → getD (s .out) i none ≡ none → AtTurn (f i) i s (missed f s)
+  pub missed-cut : T (getD (s .live) i false) → getD (s .out) i none ≡ none → AtTurn k j (f i) i s (missed f s) ⊎ CutAt k j i s (missed f s)
   unfolding missed
-  missed-at g l e =
-      let n : ℕ = length (s .live) in
-      turn-at k j isMissed f A h s i n (live-below (s .live) i l)
-      (missed-then _ (pass-before k j isMissed f A h s i) l e (pass k j isMissed f A h s i n (omega (arith, live-below (s .live) i l)) .grows .goes g)) g
+  missed-cut l e = turn-or-cut k j isMissed f A h s (λ x z e. rw e) i (length (s .live)) (live-below (s .live) i l) (missed-then _ (pass-before k j isMissed f A h s i) l e)
+
+  -- where the run goes on after the pass, each live lane has had its turn
+  pub lanes-at : Going (lanes f s) → T (getD (s .live) i false) → AtTurn k j (f i) i s (lanes f s)
+  lanes-at g l = either (λ a. a) (λ c. absurd (c .stopped g)) (lanes-cut l)
+
+  pub missed-at : Going (missed f s) → T (getD (s .live) i false) → getD (s .out) i none ≡ none → AtTurn k j (f i) i s (missed f s)
+  missed-at g l e = either (λ a. a) (λ c. absurd (c .stopped g)) (missed-cut l e)
 
   -- a lane that has its dst is passed over
   pub missed-past : (w : ℕ) → getD (s .out) i none ≡ some w → Apart i s (missed f s)

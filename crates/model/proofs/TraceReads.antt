@@ -1,31 +1,33 @@
--- What the lanes' part of an instruction notes of a live lane, if the run still goes after it.
+-- What the lanes' part of an instruction notes of a live lane, if the machine is not stuck after it.
 use Prim.Native.Nat.{ℕ, _≤_, _<_}
 use native.Mathlib.Omega.{arith}
 use mathlib.Core.Path.{_≡_, refl, sym, ap, _∙_, subst}
-use mathlib.Core.Logic.{inl, _≢_}
+use mathlib.Core.Logic.{_⊎_, inl, inr, _≢_}
 use mathlib.Core.Bool.{Bool, true, false}
 use mathlib.Core.Option.{none, some}
 use mathlib.Core.List.{List, []}
 use lib.Dec.{T}
 use lib.ListN.{length, getD, getElem?, length-replicate}
 use Rattle.model.specs.Book.Syntax.{QueryEntry, WriteVal, Instr, LookupOrInsertDefault, LookupWithDefault, Lookup, LookupWithFallback, Insert, InsertIfEq, Remove, External, ExternalWithFallback, AssertEq, AssertNe, AssertAnyNe, ReadCounter}
-use Rattle.model.specs.Machine.State.{State, Site, Record, reads, took, asks, isGoing, Env, note, give, lose, withCounters, logged}
+use Rattle.model.specs.Machine.State.{State, Site, Record, reads, took, asks, full, isGoing, Env, note, give, lose, withCounters, logged}
 use Rattle.model.specs.Machine.Values.{hold, valueOf, valuesOf, listOf, find}
 use Rattle.model.specs.Machine.Steps.{here, tableOf, wait, plain, clear, lanes, missed, lookup, invoke, serveMissed, takeColumn, takeDefault, body}
 use Rattle.model.specs.Check.{entriesOf}
 use Rattle.model.specs.Claims.Trace.{In, LookupAt, lookupOf, readFirst, readThen, Misses, Goes}
 use Rattle.model.specs.Laws.Logic.{none-some, some-inj, either}
 use Rattle.model.specs.Safety.Lanes.{live-below}
-use Rattle.model.proofs.Grown.{in-cons, in-none, Longer, longer-trans, longer-new}
+use Rattle.model.proofs.Idle.{not-going, missed-idle}
+use Rattle.model.proofs.Grown.{in-cons, in-none, Longer, longer-trans, longer-new, Going, Unstuck, going-unstuck}
 use Rattle.model.proofs.Entries.{list-values, hold-value, hold-values, build-word}
 use Rattle.model.proofs.TraceTurns.{moves-in, moves-refl, Turn, Quiet}
-use Rattle.model.proofs.TracePasses.{Apart, AtTurn, Later, lanes-at, missed-at, missed-past, missed-later}
+use Rattle.model.proofs.TracePasses.{Apart, Unread, AtTurn, turn-unstuck, turn-went, CutAt, Later, lanes-cut, missed-cut, lanes-at, missed-at, missed-past, missed-later}
 use Rattle.model.proofs.Went.{column-went, rowOf, RowWent, look-went, serve-went, call-went}
 use Rattle.model.proofs.TraceBodies.{none-at, Took, took-later, gave-took, Waits, waits, firstTurn, look-turn, first-turn, call-turn, Served, serve-turn, looked}
+use Rattle.model.proofs.TraceEnds.{first-ends, looks-go, calls-go, missed-go}
 use Rattle.model.proofs.TraceNotes.{EntryNoted, noted-later, list-entry, call-notes, first-notes, default-notes, equal-notes}
 
 -- lane i is live in s₀, where the instruction begins
-module _ (E : Env) (k j : ℕ) (s₀ : State) (i : ℕ) (l : T (getD (s₀ .live) i false)) where
+module _ (E : Env) (k j : ℕ) (s₀ : State) (g₀ : Going s₀) (i : ℕ) (l : T (getD (s₀ .live) i false)) where
   abbrev o : Site
   o = here k j i
 
@@ -43,19 +45,8 @@ module _ (E : Env) (k j : ℕ) (s₀ : State) (i : ℕ) (l : T (getD (s₀ .live
 
   -- ## The first pass
 
-  turn-of : (ins : Instr) → T (isGoing (first ins .status)) → AtTurn (firstTurn E k j ins i) i s (first ins)
+  turn-of : (ins : Instr) → Going (first ins) → AtTurn k j (firstTurn E k j ins i) i s (first ins)
   turn-of ins g = lanes-at k j (firstTurn E k j ins) (λ _ _. Quiet) (first-turn E k j ins) s i g l
-
-  -- what holds of the lane's turn, whatever the state, is noted after the pass
-  entry-after : (ins : Instr) (e : QueryEntry) → ((s′ : State) → s′ .bindings ≡ s .bindings → T (isGoing (firstTurn E k j ins i s′ .status)) → EntryNoted (firstTurn E k j ins i s′ .trace) o (s′ .bindings) e)
-      → T (isGoing (first ins .status)) → EntryNoted (first ins .trace) o (s .bindings) e
-  entry-after ins e h g =
-      let a = turn-of ins g in
-      noted-later (a .after) o (s .bindings) e
-      (subst (λ b. EntryNoted (firstTurn E k j ins i (a .start) .trace) o b e) (a .before .bindings) (h (a .start) (a .before .bindings) (a .goes)))
-
-  entry-first : (ins : Instr) → T (isGoing (first ins .status)) → (e : QueryEntry) → In e (readFirst ins) → EntryNoted (first ins .trace) o (s .bindings) e
-  entry-first ins g e h = entry-after ins e (λ s′ _ g′. first-notes E k j i s′ ins g′ e h) g
 
   -- ## Missed lanes
 
@@ -69,7 +60,7 @@ module _ (E : Env) (k j : ℕ) (s₀ : State) (i : ℕ) (l : T (getD (s₀ .live
   call-waits f1 args1 f2 args2 dst ws read none′ g =
       let ins : Instr = ExternalWithFallback f1 args1 f2 args2 dst in
       let a = turn-of ins g in
-      let c = call-went o E (a .start) 0 plain f1 args1 wait (a .goes) in
+      let c = call-went o E (a .start) 0 plain f1 args1 wait (turn-went a g) in
       let same : c .0 ≡ ws = some-inj (sym (list-values (s .bindings) i (E .arity f1) args1 (subst (λ b. listOf b i (E .arity f1) args1 ≡ some (c .0)) (a .before .bindings) (c .1))) ∙ read) in
       either
       (λ p. absurd (none-some (sym none′ ∙ subst (λ y. E .answer o 0 f1 y ≡ some (p .0)) same (p .1))))
@@ -81,7 +72,7 @@ module _ (E : Env) (k j : ℕ) (s₀ : State) (i : ℕ) (l : T (getD (s₀ .live
       T (isGoing (missed f′ s₁ .status)) → (e : QueryEntry) → In e args → EntryNoted (missed f′ s₁ .trace) o (s .bindings) e
   call-entries c dst f args s₁ w g e h =
       let a = missed-at k j (λ x. invoke E (here k j x) c (hold dst) f args (lose x)) (λ _ _. Quiet) (call-turn E k j c dst f args) s₁ i g (w .live) (w .out) in
-      let q = list-entry (call-notes o (a .start) E c (hold dst) f args (lose i) (λ e z h. h) (a .goes)) e h in
+      let q = list-entry (call-notes o (a .start) E c (hold dst) f args (lose i) (λ e z h. h) (turn-went a g)) e h in
       noted-later (a .after) o (s .bindings) e
       (subst (λ b. EntryNoted (invoke E o c (hold dst) f args (lose i) (a .start) .trace) o b e) (a .before .bindings ∙ w .bindings) (q .0, hold-value dst (a .start .bindings) i e (q .1), q .2))
 
@@ -111,30 +102,40 @@ module _ (E : Env) (k j : ℕ) (s₀ : State) (i : ℕ) (l : T (getD (s₀ .live
         below : i < length (start .out)
         log : Longer (λ q. q .site .lane ≢ i) (s .log) (start .log)
         went : RowWent o E (note (reads o key) start) (hold dst (start .bindings)) t key vs goOn (serve start)
-        goes : T (isGoing (serve start .status))
+        unstuck : Unstuck (serve start)
         after : Apart i (serve start) served
 
-      serves : Misses E s i t args key → T (isGoing (served .status)) → Serves
-      serves m g =
-          let w : Waits i s (first loid) = look-waits t args col key m (first-goes g) in
-          let a = missed-at k j _ (Served E k j dst t args) (serve-turn E k j dst t args vs col) (first loid) i g (w .live) (w .out) in
-          let c = serve-went o E (a .start) dst t args vs col (a .goes) in
+      -- or the run stops, and the lane has logged nothing
+      abbrev Unlogs : Type 0
+      Unlogs = (Going served → ⊥) × Longer (λ q. q .site .lane ≢ i) (s .log) (served .log)
+
+      serves : Misses E s i t args key → Going (first loid) → Unstuck served → Serves ⊎ Unlogs
+      serves m g u =
+          let w : Waits i s (first loid) = look-waits t args col key m g in
+          either
+          (λ a. let c = serve-went o E (a .start) dst t args vs col (turn-unstuck a u) in
           let same : c .0 ≡ key = some-inj (sym (hold-values dst (s .bindings) i args (list-values (hold dst (s .bindings)) i (tableOf E t .keys) args (subst (λ b. listOf (hold dst b) i (tableOf E t .keys) args ≡ some (c .0)) (a .before .bindings ∙ w .bindings) (c .1)))) ∙ m .0) in
-          record {
+          let log : Longer (λ q. q .site .lane ≢ i) (s .log) (a .start .log) = longer-trans _ (s .log) (first loid .log) (a .start .log) (w .log) (a .before .grows .log) in
+          either
+          (λ p. inl (record {
             start = a .start;
             bindings = a .before .bindings ∙ w .bindings;
             below = omega (arith, live-below (s .live) i l, a .before .kept .size, w .size, size);
-            log = longer-trans _ (s .log) (first loid .log) (a .start .log) (w .log) (a .before .grows .log);
-            went = subst (λ y. RowWent o E (note (reads o y) (a .start)) (hold dst (a .start .bindings)) t y vs (λ _ r s′. takeColumn o col r (note (asks o t y r) s′)) (serve (a .start))) same (c .2);
-            goes = a .goes;
+            log = log;
+            went = subst (λ y. RowWent o E (note (reads o y) (a .start)) (hold dst (a .start .bindings)) t y vs (λ _ r s′. takeColumn o col r (note (asks o t y r) s′)) (serve (a .start))) same p;
+            unstuck = turn-unstuck a u;
             after = a .after;
-          }
+          }))
+          (λ p. inr (λ g. p .0 (a .after .grows .goes g), longer-trans _ (s .log) (a .start .log) (served .log) log (subst (λ y. Longer (λ q. q .site .lane ≢ i) y (served .log)) (p .1) (a .after .grows .log))))
+          (c .2))
+          (λ c. inr (c .stopped, longer-trans _ (s .log) (first loid .log) (served .log) (w .log) (c .before .grows .log)))
+          (missed-cut k j _ (Served E k j dst t args) (serve-turn E k j dst t args vs col) (first loid) i (w .live) (w .out))
 
       module _ (v : Serves) where
         -- its column is taken from the row, and then come other lanes' turns
         taken : (r : List ℕ) (s′ : State) → serve (v .start) ≡ goOn true r s′ → (w : ℕ) × (getElem? r col ≡ some w) × Apart i (give i w (note (took o r) (note (asks o t key r) s′))) served
         taken r s′ e =
-            let p = column-went o col r (note (asks o t key r) s′) (subst (λ z. T (isGoing (z .status))) e (v .goes)) in
+            let p = column-went o col r (note (asks o t key r) s′) (subst Unstuck e (v .unstuck)) in
             (p .0, p .1, subst (λ z. Apart i z served) (e ∙ p .2) (v .after))
 
         -- the row is asked for and taken
@@ -154,63 +155,101 @@ module _ (E : Env) (k j : ℕ) (s₀ : State) (i : ℕ) (l : T (getD (s₀ .live
             (q .0, subst (λ b. valueOf b i e ≡ some (q .0)) (v .bindings) (hold-value dst (v .start .bindings) i e (q .1)), (v .went .0, inl (moves-in (m .2) (2, refl)), q .2)))
             (v .went .1)
 
-    serve-entries : T (isGoing (served .status)) → (r : Record) (n : ℕ) → length (s .log) ≤ n → getElem? (served .log) n ≡ some r → r .site ≡ o → (e : QueryEntry) → In e (entriesOf vs) → EntryNoted (served .trace) o (s .bindings) e
-    serve-entries g r n le at here′ e h =
-        let a = turn-of loid (first-goes g) in
-        let c = look-went o E (a .start) t args col wait (a .goes) in
+    serve-entries : Going (first loid) → Unstuck served → (r : Record) (n : ℕ) → length (s .log) ≤ n → getElem? (served .log) n ≡ some r → r .site ≡ o → (e : QueryEntry) → In e (entriesOf vs) → EntryNoted (served .trace) o (s .bindings) e
+    serve-entries g u r n le at here′ e h =
+        let a = turn-of loid g in
+        let c = look-went o E (a .start) t args col wait (turn-went a g) in
         let read : valuesOf (s .bindings) i args ≡ some (c .0) = list-values (s .bindings) i (tableOf E t .keys) args (subst (λ b. listOf b i (tableOf E t .keys) args ≡ some (c .0)) (a .before .bindings) (c .1)) in
+        let none-new : Longer (λ q. q .site .lane ≢ i) (s .log) (served .log) → ⊥ = λ m. longer-new (λ q. q .site .lane ≢ i) (s .log) (served .log) m n le at (ap (λ x. x .lane) here′) in
         either
         (λ p. let past = missed-past k j _ (Served E k j dst t args) (serve-turn E k j dst t args vs col) (first loid) i (p .2 .0 .word) (p .2 .0 .dst) in
-        absurd (longer-new (λ q. q .site .lane ≢ i) (s .log) (served .log) (longer-trans _ (s .log) (first loid .log) (served .log) (p .2 .1) (past .grows .log)) n le at (ap (λ x. x .lane) here′)))
-        (λ p. serve-words (c .0) (serves (c .0) (read, p .0) g) r n le at here′ e h)
-        (looked E k j t args col (λ _. wait) (look-turn E k j t args col) s size i l (c .0) read (first-goes g))
+        absurd (none-new (longer-trans _ (s .log) (first loid .log) (served .log) (p .2 .1) (past .grows .log))))
+        (λ p. either (λ v. serve-words (c .0) v r n le at here′ e h) (λ q. absurd (none-new (q .1))) (serves (c .0) (read, p .0) g u))
+        (looked E k j t args col (λ _. wait) (look-turn E k j t args col) s size i l (c .0) read g)
 
   -- ## The lanes' part
 
   abbrev part : Instr → State
   part ins = body E k j ins s
 
-  rest-later : (ins : Instr) {e : QueryEntry} → In e (readFirst ins) → Later (first ins) (part ins)
-  unfolding body readFirst
-  rest-later (LookupOrInsertDefault t args vs col dst) h = missed-later k j _ (Served E k j dst t args) (serve-turn E k j dst t args vs col) _
-  rest-later (LookupWithDefault t args col dst x) h = moves-refl _ _ _ _
-  rest-later (Lookup t args col dst) h = moves-refl _ _ _ _
-  rest-later (LookupWithFallback t key f args col dst) h = missed-later k j _ (λ _ _. Quiet) (call-turn E k j 0 dst f args) _
-  rest-later (Insert t vals) h = moves-refl _ _ _ _
-  rest-later (InsertIfEq t x y vals) h = moves-refl _ _ _ _
-  rest-later (Remove t args) h = moves-refl _ _ _ _
-  rest-later (External f args dst) h = moves-refl _ _ _ _
-  rest-later (ExternalWithFallback f1 args1 f2 args2 dst) h = missed-later k j _ (λ _ _. Quiet) (call-turn E k j 1 dst f2 args2) _
-  rest-later (AssertEq x y) h = moves-refl _ _ _ _
-  rest-later (AssertNe x y) h = moves-refl _ _ _ _
-  rest-later (AssertAnyNe d ops) h = moves-refl _ _ _ _
-  rest-later (ReadCounter c dst) h = absurd (in-none h)
+  -- an entry that the instruction reads in some case
+  abbrev Reads : QueryEntry → Instr → Type 0
+  Reads e ins = In e (readFirst ins) ⊎ In e (readThen ins)
 
-  pub part-first : (ins : Instr) → T (isGoing (part ins .status)) → (e : QueryEntry) → In e (readFirst ins) → EntryNoted (part ins .trace) o (s .bindings) e
-  part-first ins g e h = let m = rest-later ins h in noted-later m o (s .bindings) e (entry-first ins (m .grows .goes g) e h)
+  -- what comes after the first pass takes nothing back, and is left out where the run has stopped
+  abbrev Rest : Instr → Type 0
+  Rest ins = Later (first ins) (part ins) × ((Going (first ins) → ⊥) → part ins ≡ first ins)
 
-  pub part-then : (ins : Instr) (s′ : State) → s′ .log ≡ part ins .log → T (isGoing (part ins .status)) → (e : QueryEntry) → In e (readThen ins) → Goes E k j s₀ s′ i ins → EntryNoted (part ins .trace) o (s .bindings) e
+  second : (f : ℕ → State → State) (A : ℕ → State → ℕ → List ℕ → Type 0) → ((x : ℕ) (s : State) → Turn (here k j x) (A x s) s (f x s)) → (z : State) → Later z (missed f z) × ((Going z → ⊥) → missed f z ≡ z)
+  second f A h z = (missed-later k j f A h z, λ n. missed-idle f z (not-going (z .status) n))
+
+  rest : (ins : Instr) {e : QueryEntry} → Reads e ins → Rest ins
+  unfolding body readFirst readThen
+  rest (LookupOrInsertDefault t args vs col dst) h = second _ (Served E k j dst t args) (serve-turn E k j dst t args vs col) _
+  rest (LookupWithDefault t args col dst x) h = (moves-refl _ _ _ _, λ _. refl)
+  rest (Lookup t args col dst) h = (moves-refl _ _ _ _, λ _. refl)
+  rest (LookupWithFallback t key f args col dst) h = second _ (λ _ _. Quiet) (call-turn E k j 0 dst f args) _
+  rest (Insert t vals) h = (moves-refl _ _ _ _, λ _. refl)
+  rest (InsertIfEq t x y vals) h = (moves-refl _ _ _ _, λ _. refl)
+  rest (Remove t args) h = (moves-refl _ _ _ _, λ _. refl)
+  rest (External f args dst) h = (moves-refl _ _ _ _, λ _. refl)
+  rest (ExternalWithFallback f1 args1 f2 args2 dst) h = second _ (λ _ _. Quiet) (call-turn E k j 1 dst f2 args2) _
+  rest (AssertEq x y) h = (moves-refl _ _ _ _, λ _. refl)
+  rest (AssertNe x y) h = (moves-refl _ _ _ _, λ _. refl)
+  rest (AssertAnyNe d ops) h = (moves-refl _ _ _ _, λ _. refl)
+  rest (ReadCounter c dst) h = absurd (either in-none in-none h)
+
+  -- the log was full before the lane had its turn
+  abbrev pub PartCut : Instr → Type 0
+  PartCut ins = (part ins .status ≡ full) × Unread k j i s (part ins)
+
+  first-unstuck : (ins : Instr) {e : QueryEntry} → Reads e ins → Unstuck (part ins) → Unstuck (first ins)
+  first-unstuck ins h u q = u (ap (λ z. z .status) (rest ins h .1 (λ g. going-unstuck (first ins) g q)) ∙ q)
+
+  cut : (ins : Instr) {e : QueryEntry} → Reads e ins → Unstuck (part ins) → CutAt k j i s (first ins) → PartCut ins
+  cut ins h u c =
+      subst (λ z. (z .status ≡ full) × Unread k j i s z) (sym (rest ins h .1 (c .stopped)))
+      (either (λ g. absurd (c .stopped g)) (λ q. q) (first-ends E k j ins s g₀ (first-unstuck ins h u)), c .unread)
+
+  -- what holds of the lane's turn, whatever the state, is noted
+  entry-after : (ins : Instr) (e : QueryEntry) → Reads e ins → ((s′ : State) → s′ .bindings ≡ s .bindings → Unstuck (firstTurn E k j ins i s′) → EntryNoted (firstTurn E k j ins i s′ .trace) o (s′ .bindings) e)
+      → Unstuck (part ins) → EntryNoted (part ins .trace) o (s .bindings) e ⊎ PartCut ins
+  entry-after ins e h notes u = either
+      (λ a. inl (noted-later (rest ins h .0) o (s .bindings) e (noted-later (a .after) o (s .bindings) e
+      (subst (λ b. EntryNoted (firstTurn E k j ins i (a .start) .trace) o b e) (a .before .bindings) (notes (a .start) (a .before .bindings) (turn-unstuck a (first-unstuck ins h u)))))))
+      (λ c. inr (cut ins h u c))
+      (lanes-cut k j (firstTurn E k j ins) (λ _ _. Quiet) (first-turn E k j ins) s i l)
+
+  pub part-first : (ins : Instr) → Unstuck (part ins) → (e : QueryEntry) → In e (readFirst ins) → EntryNoted (part ins .trace) o (s .bindings) e ⊎ PartCut ins
+  part-first ins u e h = entry-after ins e (inl h) (λ s′ _ u′. first-notes E k j i s′ ins u′ e h) u
+
+  pub part-then : (ins : Instr) (s′ : State) → s′ .log ≡ part ins .log → Unstuck (part ins) → (e : QueryEntry) → In e (readThen ins) → Goes E k j s₀ s′ i ins → EntryNoted (part ins .trace) o (s .bindings) e ⊎ PartCut ins
   unfolding body readThen
-  part-then (LookupOrInsertDefault t args vs col dst) s′ q g e h y = serve-entries dst t args vs col g (y .0) (y .1) (y .2) (subst (λ x. getElem? x (y .1) ≡ some (y .0)) q (y .3)) (y .4) e h
-  part-then (LookupWithDefault t args col dst x) s′ q g e h y =
-      entry-after (LookupWithDefault t args col dst x) e (λ z b g′.
+  part-then (LookupOrInsertDefault t args vs col dst) s′ q u e h y =
+      let ins : Instr = LookupOrInsertDefault t args vs col dst in
+      inl (serve-entries dst t args vs col (looks-go E k j t args col s g₀ (first-unstuck ins (inr h) u)) u (y .0) (y .1) (y .2) (subst (λ x. getElem? x (y .1) ≡ some (y .0)) q (y .3)) (y .4) e h)
+  part-then (LookupWithDefault t args col dst x) s′ q u e h y =
+      entry-after (LookupWithDefault t args col dst x) e (inr h) (λ z b u′.
       subst (λ w. EntryNoted (firstTurn E k j (LookupWithDefault t args col dst x) i z .trace) o (z .bindings) w) (either (λ p. p) (λ p. absurd (in-none p)) (in-cons x [] h))
-      (default-notes E k j i z t args col x (y .0) (subst (λ c. valuesOf c i args ≡ some (y .0)) (sym b) (y .1 .0), y .1 .1) g′)) g
-  part-then (Lookup t args col dst) s′ q g e h y = absurd y
-  part-then (LookupWithFallback t key f args col dst) s′ q g e h y =
-      call-entries 0 dst f args (first (LookupWithFallback t key f args col dst)) (look-waits t key col (y .0) (y .1) (missed-later k j _ (λ _ _. Quiet) (call-turn E k j 0 dst f args) (first (LookupWithFallback t key f args col dst)) .grows .goes g)) g e h
-  part-then (Insert t vals) s′ q g e h y = absurd y
-  part-then (InsertIfEq t u v vals) s′ q g e h y =
-      entry-after (InsertIfEq t u v vals) e (λ z b g′. list-entry (equal-notes E k j i z t u v vals (y .0) (subst (λ c. valueOf c i u ≡ some (y .0)) (sym b) (y .1)) (subst (λ c. valueOf c i v ≡ some (y .0)) (sym b) (y .2)) g′) e h) g
-  part-then (Remove t args) s′ q g e h y = absurd y
-  part-then (External f args dst) s′ q g e h y = absurd y
-  part-then (ExternalWithFallback f1 args1 f2 args2 dst) s′ q g e h y =
+      (default-notes E k j i z t args col x (y .0) (subst (λ c. valuesOf c i args ≡ some (y .0)) (sym b) (y .1 .0), y .1 .1) u′)) u
+  part-then (Lookup t args col dst) s′ q u e h y = absurd y
+  part-then (LookupWithFallback t key f args col dst) s′ q u e h y =
+      let ins : Instr = LookupWithFallback t key f args col dst in
+      let g : Going (first ins) = looks-go E k j t key col s g₀ (first-unstuck ins (inr h) u) in
+      inl (call-entries 0 dst f args (first ins) (look-waits t key col (y .0) (y .1) g) (missed-go E k j 0 dst f args (first ins) g u) e h)
+  part-then (Insert t vals) s′ q u e h y = absurd y
+  part-then (InsertIfEq t l r vals) s′ q u e h y =
+      entry-after (InsertIfEq t l r vals) e (inr h) (λ z b u′. list-entry (equal-notes E k j i z t l r vals (y .0) (subst (λ c. valueOf c i l ≡ some (y .0)) (sym b) (y .1)) (subst (λ c. valueOf c i r ≡ some (y .0)) (sym b) (y .2)) u′) e h) u
+  part-then (Remove t args) s′ q u e h y = absurd y
+  part-then (External f args dst) s′ q u e h y = absurd y
+  part-then (ExternalWithFallback f1 args1 f2 args2 dst) s′ q u e h y =
       let ins : Instr = ExternalWithFallback f1 args1 f2 args2 dst in
-      call-entries 1 dst f2 args2 (first ins) (call-waits f1 args1 f2 args2 dst (y .0) (y .1) (y .2) (missed-later k j _ (λ _ _. Quiet) (call-turn E k j 1 dst f2 args2) (first ins) .grows .goes g)) g e h
-  part-then (AssertEq x z) s′ q g e h y = absurd y
-  part-then (AssertNe x z) s′ q g e h y = absurd y
-  part-then (AssertAnyNe d ops) s′ q g e h y = absurd y
-  part-then (ReadCounter c dst) s′ q g e h y = absurd y
+      let g : Going (first ins) = calls-go E k j f1 args1 s g₀ (first-unstuck ins (inr h) u) in
+      inl (call-entries 1 dst f2 args2 (first ins) (call-waits f1 args1 f2 args2 dst (y .0) (y .1) (y .2) g) (missed-go E k j 1 dst f2 args2 (first ins) g u) e h)
+  part-then (AssertEq x z) s′ q u e h y = absurd y
+  part-then (AssertNe x z) s′ q u e h y = absurd y
+  part-then (AssertAnyNe d ops) s′ q u e h y = absurd y
+  part-then (ReadCounter c dst) s′ q u e h y = absurd y
 
   -- the committed row of a lookup
   module _ (key r : List ℕ) where
@@ -248,4 +287,4 @@ module _ (E : Env) (k j : ℕ) (s₀ : State) (i : ℕ) (l : T (getD (s₀ .live
   pub part-asks : (t : ℕ) (args : List QueryEntry) (vs : List WriteVal) (col dst : ℕ) (key : List ℕ) → T (isGoing (part (LookupOrInsertDefault t args vs col dst) .status)) → Misses E s i t args key
       → (r : List ℕ) × (In (asks o t key r) (part (LookupOrInsertDefault t args vs col dst) .trace) × Took o col r (part (LookupOrInsertDefault t args vs col dst)))
   unfolding body
-  part-asks t args vs col dst key g m = serve-took dst t args vs col key (serves dst t args vs col key m g)
+  part-asks t args vs col dst key g m = serve-took dst t args vs col key (either (λ v. v) (λ p. absurd (p .0 g)) (serves dst t args vs col key m (first-goes dst t args vs col g) (going-unstuck (served dst t args vs col) g)))

@@ -14,10 +14,12 @@ use Rattle.model.specs.Book.Syntax.{Counter, WriteVal, Instr, dstOf, wid
 use Rattle.model.specs.Machine.State.{State, Site, Event, mask, reads, took, asks, isGoing, Env, note, change, frame, stuck, predicted, reply}
 use Rattle.model.specs.Machine.Values.{find}
 use Rattle.model.specs.Machine.Steps.{here, tableOf, clear, bindOut, anyLive, begin, end, finish, body, instruction, instructions, predict, step, run}
+use Rattle.model.specs.Claims.Trace.{In}
 use Rattle.model.specs.Laws.Logic.{and-T, found-ind, when-ind, either, le-cases}
 use Rattle.model.specs.Laws.Turns.{need-ind}
-use Rattle.model.proofs.Grown.{Grows, grows-refl, grows-trans, grows-note, grows-logged, grows-stop, grows-map}
+use Rattle.model.proofs.Grown.{in-none, newer-cases, Grows, grows-refl, grows-trans, grows-note, grows-logged, grows-stop, grows-map}
 use Rattle.model.proofs.TraceTurns.{Closed, Own, row-closed}
+use Rattle.model.proofs.TracePasses.{At}
 use Rattle.model.proofs.TraceBodies.{AsksOf, LaneEvent, LaneRecord, body-adds}
 
 -- an event at a site with P, or a mask of a step with M
@@ -38,6 +40,12 @@ own-at P M o A p (mask k l) h = absurd h
 own-at P M o A p (reads q ws) h = subst P (sym h) p
 own-at P M o A p (took q ws) h = subst P (sym h) p
 own-at P M o A p (asks q t key ws) h = subst P (sym (h .0)) p
+
+pub at-both : (P : Site → Type 0) (M : ℕ → Type 0) (o : Site) (e : Event) → At o e → EventAt P M e → P o
+at-both P M o (mask k l) h q = absurd h
+at-both P M o (reads p ws) h q = subst P h q
+at-both P M o (took p ws) h q = subst P h q
+at-both P M o (asks p t key ws) h q = subst P (h .0) q
 
 -- a site of step k; of one of its instructions m .. n - 1
 abbrev pub InStep : ℕ → Site → Type 0
@@ -143,9 +151,9 @@ module _ (E : Env) where
 
   -- ## Steps and runs
 
-  pub begin-grows : (k : ℕ) (r : Rule) (n : ℕ) (columns : List (List ℕ)) (s : State) → GrowsIn k s (begin k r n columns s)
+  pub begin-grows : (P : Site → Type 0) (k : ℕ) (r : Rule) (n : ℕ) (columns : List (List ℕ)) (s : State) → GrowsAt P (λ k′. k′ ≡ k) s (begin k r n columns s)
   unfolding begin
-  begin-grows k r n columns s = grows-note _ _ s s (grows-refl _ _ s) _ refl
+  begin-grows P k r n columns s = grows-note _ _ s s (grows-refl _ _ s) _ refl
 
   pub step-grows : (k : ℕ) (st : Step) (s : State) → GrowsIn k s (step E k st s)
   unfolding step end instructions
@@ -153,7 +161,7 @@ module _ (E : Env) where
       let R : Rule = ruleAt (E .rules) r in
       let s₀ : State = begin k R n columns s in
       let s₁ : State = instructions E k R (length (R .instrs)) s₀ in
-      let a : GrowsIn k s s₁ = grows-trans _ _ s s₀ s₁ (begin-grows k R n columns s) (grows-at (λ o p. p .0) (λ k′ e. e) s₀ s₁ (instructions-grow k R s₀ 0 (length (R .instrs)) (omega arith))) in
+      let a : GrowsIn k s s₁ = grows-trans _ _ s s₀ s₁ (begin-grows (InStep k) k R n columns s) (grows-at (λ o p. p .0) (λ k′ e. e) s₀ s₁ (instructions-grow k R s₀ 0 (length (R .instrs)) (omega arith))) in
       when-ind (GrowsIn k s) (isGoing (s₁ .status)) _ s₁ (λ _. a) a
   step-grows k (prediction t key vs) s =
       grows-map (own-at (InStep k) (λ k′. k′ ≡ k) (here k 0 0) (λ _ _. Unit {0}) refl) (λ r e. ap (λ y. y .step) e) s (predict E (here k 0 0) t key vs (frame (λ _. none) [] [] s))
@@ -178,3 +186,7 @@ module _ (E : Env) where
             (λ _. found-ind (GrowsAmong m (suc n) s) (getElem? steps n) (λ st. step E n st s) (λ _. s)
             (λ st _. grows-at (λ o p. (omega (arith, p), omega (arith, p))) (λ k p. (omega (arith, p), omega (arith, p))) s (step E n st s) (step-grows n st s))
             (λ _. grows-refl _ _ s)) (grows-refl _ _ s)
+
+    pub run-event : (n : ℕ) (o : Site) (e : Event) → At o e → In e (run E counters steps n .trace) → o .step < n
+    unfolding run
+    run-event n o e a h = either (λ p. at-both (λ q. Among 0 n (q .step)) (Among 0 n) o e a p .1) (λ p. absurd (in-none p)) (newer-cases (EventAt (λ p. Among 0 n (p .step)) (Among 0 n)) (run E counters steps 0 .trace) (run E counters steps n .trace) (run-grows 0 n (omega arith) .trace) h)

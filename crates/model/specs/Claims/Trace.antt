@@ -1,14 +1,14 @@
 -- The trace says what demand 3's claims need: who asked for a predicted row, and what each live lane read.
 use Prim.Native.Nat.{ℕ, suc, _≤_, _<_}
 use mathlib.Core.Path.{_≡_}
-use mathlib.Core.Logic.{_⊎_, _↔_}
+use mathlib.Core.Logic.{_⊎_, _↔_, _≢_}
 use mathlib.Core.Bool.{Bool, true, false}
 use mathlib.Core.Option.{Option, none, some}
 use mathlib.Core.List.{List, [], _∷_}
 use lib.ListN.{length, getD, getElem?}
 use Rattle.model.specs.Book.Syntax.{Counter, QueryEntry, Var, WriteVal, Instr, LookupOrInsertDefault, LookupWithDefault, Lookup, LookupWithFallback, Insert, InsertIfEq, Remove, External, ExternalWithFallback, AssertEq, AssertNe, AssertAnyNe, ReadCounter, Step, batch, prediction, ruleAt}
 use Rattle.model.specs.Check.{entriesOf, readsOf}
-use Rattle.model.specs.Machine.State.{State, Site, Record, Event, reads, took, asks, going, predicted, Env}
+use Rattle.model.specs.Machine.State.{State, Site, Record, Event, reads, took, asks, going, stuck, full, predicted, Env}
 use Rattle.model.specs.Machine.Values.{valueOf, valuesOf, find}
 use Rattle.model.specs.Machine.Steps.{here, tableOf, begin, instructions, run}
 
@@ -143,12 +143,20 @@ module _ (E : Env) where
         → ((r : List ℕ) × In (asks o t key r) (run E counters steps n .trace))
         ⊎ ((run E counters steps (suc (o .step)) .status ≡ going → ⊥) × ((i t′ : ℕ) (key′ r : List ℕ) → o .lane ≤ i → In (asks (here (o .step) (o .instr) i) t′ key′ r) (run E counters steps n .trace) → ⊥))
 
-    -- what a live lane reads of an instruction that ends is in a `reads` or `took` event of its own: what its entries stand for,
-    abbrev pub EntriesNoted : Type 0
-    EntriesNoted = (n k j i : ℕ) (ins : Instr) (c : Comes k j i ins) → post c .status ≡ going → k < n → (e : QueryEntry) → In e (readFirst ins) ⊎ (In e (readThen ins) × Goes k j (pre c) (post c) i ins)
-        → (w : ℕ) × (valueOf (pre c .bindings) i e ≡ some w) × Noted (run E counters steps n .trace) (here k j i) w
+    -- a stuck machine stays so: where the run is not stuck (demand 3), no instruction was
+    abbrev pub StuckStays : Type 0
+    StuckStays = (n k j i : ℕ) (ins : Instr) (c : Comes k j i ins) → k < n → post c .status ≡ stuck → run E counters steps n .status ≡ stuck
 
-    -- and the row that its dst comes from: the committed row, or of a lookup-or-insert that finds none the predicted row
+    -- the log was full before lane i had its turn: from it on no lane of the instruction has read anything
+    abbrev pub CutOff : (n : ℕ) {k j i : ℕ} {ins : Instr} → Comes k j i ins → Type 0
+    CutOff n {k} {j} {i} c = (post c .status ≡ full) × ((x : ℕ) (ws : List ℕ) → i ≤ x → In (reads (here k j x) ws) (run E counters steps n .trace) ⊎ In (took (here k j x) ws) (run E counters steps n .trace) → ⊥)
+
+    -- what a live lane reads is in a `reads` or `took` event of its own, also where 12 or 13 stops the instruction: what its entries stand for,
+    abbrev pub EntriesNoted : Type 0
+    EntriesNoted = (n k j i : ℕ) (ins : Instr) (c : Comes k j i ins) → post c .status ≢ stuck → k < n → (e : QueryEntry) → In e (readFirst ins) ⊎ (In e (readThen ins) × Goes k j (pre c) (post c) i ins)
+        → ((w : ℕ) × (valueOf (pre c .bindings) i e ≡ some w) × Noted (run E counters steps n .trace) (here k j i) w) ⊎ CutOff n c
+
+    -- and the row that its dst comes from (bound only where the instruction ends): the committed row, or of a lookup-or-insert that finds none the predicted row
     abbrev pub RowsNoted : Type 0
     RowsNoted = (n k j i : ℕ) (ins : Instr) (c : Comes k j i ins) → post c .status ≡ going → k < n
         → (l : LookupAt) → lookupOf ins ≡ some l
@@ -158,7 +166,7 @@ module _ (E : Env) where
         × ((args : List QueryEntry) (vs : List WriteVal) → ins ≡ LookupOrInsertDefault (l .table) args vs (l .col) (l .dst) → find (tableOf E (l .table) .keys) (tableOf E (l .table) .rows) key ≡ none
         → (r : List ℕ) × In (asks (here k j i) (l .table) key r) (run E counters steps n .trace) × In (took (here k j i) r) (run E counters steps n .trace) × (getElem? r (l .col) ≡ valueOf (post c .bindings) i (Var (l .dst))))
 
-    -- a prediction reads the row it answers
+    -- a prediction reads the row it answers (it answers only where the step ends)
     abbrev pub AnswersNoted : Type 0
     AnswersNoted = (n k t : ℕ) (key : List ℕ) (vs : List WriteVal) → getElem? steps k ≡ some (prediction t key vs) → run E counters steps (suc k) .status ≡ going → k < n
         → (new : Bool) × (r : List ℕ) × (run E counters steps (suc k) .answers ≡ predicted new r ∷ run E counters steps k .answers) × In (took (here k 0 0) r) (run E counters steps n .trace)
