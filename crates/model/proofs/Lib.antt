@@ -28,4 +28,5 @@ mod TraceComplete
 mod TraceNotes
 mod TraceEnds
 mod TraceReads
+mod TraceRows
 mod TraceClaims

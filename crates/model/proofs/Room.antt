@@ -38,10 +38,10 @@ stuck≢spent e = let z : _≡_ {A = ℕ} 0 1 = cc in omega arith
 going≢full : going ≢ full
 going≢full e = let z : _≡_ {A = ℕ} 0 1 = cc in omega arith
 
-stuck≢full : stuck ≢ full
+pub stuck≢full : stuck ≢ full
 stuck≢full e = let z : _≡_ {A = ℕ} 0 1 = cc in omega arith
 
-full≢spent : full ≢ spent
+pub full≢spent : full ≢ spent
 full≢spent e = let z : _≡_ {A = ℕ} 0 1 = cc in omega arith
 
 -- n answers, unless it has stopped

@@ -10,22 +10,24 @@ use lib.Dec.{T, eqb, eqb-refl}
 use lib.ListN.{length, getD, getElem?}
 use Rattle.model.specs.Basics.{only}
 use Rattle.model.specs.Book.Syntax.{Counter, QueryEntry, Var, WriteVal, Instr, LookupOrInsertDefault, LookupWithDefault, Lookup, LookupWithFallback, Insert, InsertIfEq, Remove, External, ExternalWithFallback, AssertEq, AssertNe, AssertAnyNe, ReadCounter, dstOf, width, Step, prediction}
-use Rattle.model.specs.Machine.State.{State, Event, reads, took, asks, isGoing, predicted, Env, frame}
+use Rattle.model.specs.Machine.State.{State, Event, reads, took, asks, full, isGoing, predicted, Env, frame}
 use Rattle.model.specs.Machine.Values.{laneOf, valueOf, valuesOf, find}
 use Rattle.model.specs.Machine.Steps.{here, tableOf, clear, orStale, bindOut, finish, body, predict, step, run}
 use Rattle.model.specs.Check.{entriesOf, readsOf}
-use Rattle.model.specs.Claims.Trace.{In, readFirst, readThen, ReadsAll, LookupAt, lookupOf, Comes, pre, post, StuckStays, CutOff, EntriesNoted, RowsNoted, AnswersNoted, RecordsNoted}
+use Rattle.model.specs.Claims.Trace.{In, readFirst, readThen, ReadsAll, LookupAt, lookupOf, Comes, pre, post, StuckStays, CutOff, LastReads, EntriesNoted, RowsNoted, AnswersNoted, RecordsNoted}
 use Rattle.model.specs.Laws.Logic.{none-some, some-inj, either, found-ind, when-ind, All-at}
 use Rattle.model.specs.Safety.Run.{bind-same, out-column}
 use Rattle.model.specs.Laws.Turns.{need-ind}
+use Rattle.model.proofs.Idle.{finish-idle}
 use Rattle.model.proofs.Grown.{in-there, in-cons, in-append, in-left, in-right, in-none, newer-in, going-T, T-going, Unstuck, RecordNoted}
 use Rattle.model.proofs.TracePasses.{At, when-yes}
-use Rattle.model.proofs.Went.{row-went}
+use Rattle.model.proofs.Went.{cut-unlogged, row-went}
 use Rattle.model.proofs.TraceBodies.{Took}
 use Rattle.model.proofs.TraceRun.{run-grows}
 use Rattle.model.proofs.TraceComes.{run-step, lanesPart, lane-live, post-is, part-goes, part-noted, part-event, not-before, post-stays, part-status}
 use Rattle.model.proofs.TraceNotes.{noted-more}
-use Rattle.model.proofs.TraceReads.{PartCut, part-first, part-then, part-took, part-asks}
+use Rattle.model.proofs.TraceReads.{PartCut, part-first, part-then, part-last, part-asks}
+use Rattle.model.proofs.TraceRows.{part-took}
 
 -- ## Which entries are read
 
@@ -103,6 +105,16 @@ module _ (E : Env) (counters : List Counter) (steps : List Step) where
         either (no (reads (here k j x) ws) refl) (no (took (here k j x) ws) refl) h,
   )
 
+  -- where the run stops in the lanes' part, nothing is bound
+  post-part : {k j i : ℕ} {ins : Instr} (c : Comes E counters steps k j i ins) → post E counters steps c .status ≡ full → post E counters steps c ≡ lanesPart E counters steps c
+  post-part {k} {j} {i} {ins} c q = post-is E counters steps c ∙ finish-idle k (dstOf ins) (lanesPart E counters steps c) (ap isGoing (sym (part-status E counters steps c) ∙ q))
+
+  pub last-reads : LastReads E counters steps
+  unfolding body
+  last-reads k j i t args vs col dst c q =
+      let p = part-last E k j (pre E counters steps c) (going-T (c .goes)) i (lane-live E counters steps c) dst t args vs col (sym (part-status E counters steps c) ∙ q) in
+      (p .0, p .1, p .2, ap (λ z. z .trace) (post-part c q) ∙ p .3)
+
   pub entries-noted : EntriesNoted E counters steps
   entries-noted n k j i ins c u lt e p =
       let s : State = pre E counters steps c in
@@ -113,7 +125,7 @@ module _ (E : Env) (counters : List Counter) (steps : List Step) where
       (λ q. inr (cut-off n k j i ins c lt q))
       (either
       (λ h. part-first E k j s (going-T (c .goes)) i (lane-live E counters steps c) ins u′ e h)
-      (λ h. part-then E k j s (going-T (c .goes)) i (lane-live E counters steps c) ins (post E counters steps c) (ap (λ y. y .log) (post-is E counters steps c) ∙ finish-log k (dstOf ins) z) u′ e (h .0) (h .1)) p)
+      (λ h. part-then E k j s (going-T (c .goes)) i (lane-live E counters steps c) ins (post E counters steps c) (ap (λ y. y .log) (post-is E counters steps c) ∙ finish-log k (dstOf ins) z) (post-part c) u′ e (h .0) (h .1)) p)
 
   -- the dst of a lane that took it from a row
   took-dst : {k j i : ℕ} {ins : Instr} (c : Comes E counters steps k j i ins) {col d : ℕ} {r : List ℕ} → T (isGoing (lanesPart E counters steps c .status)) → dstOf ins ≡ some d → Took (here k j i) col r (lanesPart E counters steps c)
@@ -126,7 +138,7 @@ module _ (E : Env) (counters : List Counter) (steps : List Step) where
       let g′ : T (isGoing (lanesPart E counters steps c .status)) = part-goes E counters steps c (going-T g) in
       let s : State = pre E counters steps c in
       let d : dstOf ins ≡ some (f .dst) = lookup-dst ins f e in (
-        λ r q. let p = part-took E k j s (going-T (c .goes)) i (lane-live E counters steps c) key r ins f e g′ (read, q) in (part-noted E counters steps c n lt (p .noted), took-dst c g′ d p),
+        λ r q. let p = part-took E k j s i (lane-live E counters steps c) key r ins f e g′ (read, q) in (part-noted E counters steps c n lt (p .noted), took-dst c g′ d p),
         λ args vs q none′.
             let same : f .key ≡ args = ap (λ y. y .key) (some-inj (sym e ∙ ap lookupOf q)) in
             let p = subst (λ x. (r : List ℕ) × (In (asks (here k j i) (f .table) key r) (body E k j x (clear s) .trace) × Took (here k j i) (f .col) r (body E k j x (clear s)))) (sym q)
@@ -147,7 +159,7 @@ module _ (E : Env) (counters : List Counter) (steps : List Step) where
       either (λ p. either
       (λ q. (false, p .0, ap (λ z. z .answers) (q .1), subst (λ z. In (took (here k 0 0) (p .0)) (z .trace)) (sym (q .1)) (0, refl)))
       (λ q. (true, p .0, ap (λ z. z .answers) (q .3), subst (λ z. In (took (here k 0 0) (p .0)) (z .trace)) (sym (q .3)) (0, refl))) (p .1))
-      (λ p. absurd (p .0 g)) (row-went (here k 0 0) E s (λ _. none) t key vs _ (λ q. subst (λ o. T (isGoing o)) q g))))
+      (λ p. absurd (cut-unlogged (here k 0 0) E s (λ _. none) key vs _ p .0 g)) (row-went (here k 0 0) E s (λ _. none) t key vs _ (λ q. subst (λ o. T (isGoing o)) q g))))
 
   pub answers-noted : AnswersNoted E counters steps
   unfolding step

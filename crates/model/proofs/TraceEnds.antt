@@ -1,21 +1,26 @@
 -- How a lane's turn ends where the machine is not stuck: the run goes on, or the log is full.
 use Prim.Native.Nat.{ℕ}
-use mathlib.Core.Path.{_≡_, sym, ap, subst}
+use native.Mathlib.Omega.{arith}
+use mathlib.Core.Path.{_≡_, sym, ap, _∙_, subst}
 use mathlib.Core.Logic.{_⊎_, inl, inr}
-use mathlib.Core.Bool.{Bool, false, not}
-use mathlib.Core.List.{List}
+use mathlib.Core.Bool.{Bool, not}
+use mathlib.Core.List.{List, _∷_}
 use lib.Dec.{T, eqb}
-use lib.ListN.{length, getD, take, drop}
+use lib.ListN.{length, take, drop}
 use Rattle.model.specs.Basics.{when}
-use Rattle.model.specs.Book.Syntax.{QueryEntry, Instr, LookupOrInsertDefault, LookupWithDefault, Lookup, LookupWithFallback, Insert, InsertIfEq, Remove, External, ExternalWithFallback, AssertEq, AssertNe, AssertAnyNe, ReadCounter, width}
-use Rattle.model.specs.Machine.State.{State, Site, reads, Status, full, isGoing, Bindings, Env, note, lose}
+use Rattle.model.specs.Book.Syntax.{QueryEntry, WriteVal, Instr, LookupOrInsertDefault, LookupWithDefault, Lookup, LookupWithFallback, Insert, InsertIfEq, Remove, External, ExternalWithFallback, AssertEq, AssertNe, AssertAnyNe, ReadCounter, width}
+use Rattle.model.specs.Machine.State.{State, Site, Event, reads, Status, full, isGoing, Bindings, Env, note, lose}
 use Rattle.model.specs.Machine.Values.{hold}
-use Rattle.model.specs.Machine.Steps.{here, tableOf, isLive, lanes, missed, wait, plain, lookup, invoke, takeDefault, stageList, readPair, anyNe, assertAnyNe}
+use Rattle.model.specs.Machine.Steps.{here, tableOf, isLive, lanes, missed, wait, plain, lookup, invoke, takeColumn, takeDefault, serveMissed, stageList, readPair, anyNe, assertAnyNe}
+use Rattle.model.specs.Check.{entriesOf}
+use Rattle.model.specs.Claims.Trace.{In}
 use Rattle.model.specs.Laws.Logic.{and-T, either, when-ind}
+use Rattle.model.proofs.Room.{stuck≢full, full≢spent}
 use Rattle.model.proofs.Grown.{Going, Unstuck}
-use Rattle.model.proofs.TracePasses.{turns-end, isMissed}
-use Rattle.model.proofs.TraceBodies.{firstTurn}
-use Rattle.model.proofs.Went.{default-went, pair-went, any-went, look-went, call-went, list-went}
+use Rattle.model.proofs.Entries.{Word, hold-value, build-word}
+use Rattle.model.proofs.TracePasses.{turns, turns-end, pass, isMissed}
+use Rattle.model.proofs.TraceBodies.{firstTurn, Served, serve-turn}
+use Rattle.model.proofs.Went.{column-went, serve-went, default-went, pair-went, any-went, look-went, call-went, list-went}
 
 abbrev pub OnOrFull : Status → Type 0
 OnOrFull st = T (isGoing st) ⊎ (st ≡ full)
@@ -23,6 +28,9 @@ OnOrFull st = T (isGoing st) ⊎ (st ≡ full)
 -- ## Lane functions, from a state that goes on
 
 module _ (o : Site) (s : State) (g : Going s) where
+  column-on : (col : ℕ) (r : List ℕ) → Unstuck (takeColumn o col r s) → Going (takeColumn o col r s)
+  column-on col r u = subst Going (sym (column-went o col r s u .2)) g
+
   default-on : (e : QueryEntry) → Unstuck (takeDefault o e s) → Going (takeDefault o e s)
   default-on e u = subst Going (sym (default-went o s e u .2)) g
 
@@ -44,6 +52,9 @@ module _ (o : Site) (s : State) (g : Going s) where
 
 -- ## Passes
 
+missed-goes : (s : State) (i : ℕ) → T (isMissed s i) → Going s
+missed-goes s i t = and-T (isGoing (s .status)) _ (and-T (isLive s i) _ t .0) .0
+
 lose-on : (b : Bool) (i : ℕ) (s : State) → Going s → Going (when b (lose i) s)
 lose-on b i s g = when-ind Going b (lose i) s (λ _. g) g
 
@@ -64,24 +75,54 @@ module _ (E : Env) (k j : ℕ) where
   first-on (AssertAnyNe d ops) i s g u = inl (any-on (here k j i) s g d ops u)
   first-on (ReadCounter c dst) i s g u = inl g
 
-  lanes-end : (Z : Status → Type 0) (f : ℕ → State → State) → ((x : ℕ) (s : State) → Going s → Unstuck (f x s) → Z (f x s .status)) → (s : State) → Z (s .status) → Unstuck (lanes f s) → Z (lanes f s .status)
+  lanes-end : (P : State → Type 0) (f : ℕ → State → State) → ((x : ℕ) (s : State) → Going s → Unstuck (f x s) → P (f x s)) → (s : State) → P s → Unstuck (lanes f s) → P (lanes f s)
   unfolding lanes
-  lanes-end Z f h s z u = turns-end Z isLive f (λ x y t. h x y (and-T (isGoing (y .status)) (getD (y .live) x false) t .0)) s (length (s .live)) z u
+  lanes-end P f h s p u = turns-end P isLive f s (λ x t. h x _ (and-T (isGoing (turns isLive f s x .status)) _ t .0)) p (length (s .live)) u
 
   -- the first pass
   pub first-ends : (ins : Instr) (s : State) → Going s → Unstuck (lanes (firstTurn E k j ins) s) → OnOrFull (lanes (firstTurn E k j ins) s .status)
-  first-ends ins s g u = lanes-end OnOrFull (firstTurn E k j ins) (first-on ins) s (inl g) u
+  first-ends ins s g u = lanes-end (λ z. OnOrFull (z .status)) (firstTurn E k j ins) (first-on ins) s (inl g) u
 
   -- a pass of lookups or calls, after which missed lanes are served
   pub looks-go : (t : ℕ) (args : List QueryEntry) (col : ℕ) (s : State) → Going s → let f : ℕ → State → State = λ i. lookup E (here k j i) t args col wait in Unstuck (lanes f s) → Going (lanes f s)
-  looks-go t args col s g u = lanes-end (λ st. T (isGoing st)) _ (λ i z g. look-on (here k j i) z g E t args col wait (λ z g _. g)) s g u
+  looks-go t args col s g u = lanes-end Going _ (λ i z g. look-on (here k j i) z g E t args col wait (λ z g _. g)) s g u
 
   pub calls-go : (f : ℕ) (args : List QueryEntry) (s : State) → Going s → let f′ : ℕ → State → State = λ i. invoke E (here k j i) 0 plain f args wait in Unstuck (lanes f′ s) → Going (lanes f′ s)
-  calls-go f args s g u = lanes-end (λ st. T (isGoing st)) _ (λ i z g. call-on (here k j i) z g E 0 plain f args wait (λ z g _. g)) s g u
+  calls-go f args s g u = lanes-end Going _ (λ i z g. call-on (here k j i) z g E 0 plain f args wait (λ z g _. g)) s g u
 
   -- the pass over missed lanes that calls a function
   pub missed-go : (c dst f : ℕ) (args : List QueryEntry) (s : State) → Going s → let f′ : ℕ → State → State = λ i. invoke E (here k j i) c (hold dst) f args (lose i) in Unstuck (missed f′ s) → Going (missed f′ s)
   unfolding missed
   missed-go c dst f args s g u =
-      turns-end (λ st. T (isGoing st)) isMissed _
-      (λ i z t. call-on (here k j i) z (and-T (isGoing (z .status)) _ (and-T (isLive z i) _ t .0) .0) E c (hold dst) f args (lose i) (λ z g _. g)) s (length (s .live)) g u
+      let f′ : ℕ → State → State = λ i. invoke E (here k j i) c (hold dst) f args (lose i) in
+      turns-end Going isMissed f′ s
+      (λ i t. call-on (here k j i) (turns isMissed f′ s i) (missed-goes (turns isMissed f′ s i) i t) E c (hold dst) f args (lose i) (λ z g _. g)) g (length (s .live)) u
+
+  -- ## A row that the log has no room for
+
+  -- the last event of z: lane x has read the row, and the entries' words are in it
+  abbrev pub NoRoom : Bindings → List WriteVal → State → Type 0
+  NoRoom b vs z = (x : ℕ) × (r : List ℕ) × (rest : List Event) × (z .trace ≡ reads (here k j x) r ∷ rest) × ((e : QueryEntry) → In e (entriesOf vs) → Word b x r e)
+
+  module _ (dst t : ℕ) (args : List QueryEntry) (vs : List WriteVal) (col : ℕ) where
+    serve-full : (x : ℕ) (s : State) → Going s → serveMissed E (here k j x) dst t args vs col s .status ≡ full → NoRoom (s .bindings) vs (serveMissed E (here k j x) dst t args vs col s)
+    serve-full x s g f =
+        let z : State = serveMissed E (here k j x) dst t args vs col s in
+        let u : Unstuck z = λ e. stuck≢full (sym e ∙ f) in
+        let p = serve-went (here k j x) E s dst t args vs col u in
+        let goes : (r : List ℕ) (s′ : State) → Going s′ → z ≡ takeColumn (here k j x) col r s′ → ⊥ = λ r s′ g′ e. subst (λ o. T (isGoing o)) f (subst Going (sym e) (column-on (here k j x) s′ g′ col r (subst Unstuck e u))) in
+        either
+        (λ q. absurd (either (λ y. goes (q .0) _ g (y .1)) (λ y. goes (q .0) _ g (y .3)) (q .1)))
+        (either
+        (λ e. absurd (full≢spent (sym f ∙ ap (λ y. y .status) e)))
+        (λ q. (x, q .0, _, ap (λ y. y .trace) (q .3), λ e h. let w = build-word (hold dst (s .bindings)) x vs (p .0) (s .counters) (q .2) .1 e h in (w .0, hold-value dst (s .bindings) x e (w .1), w .2))))
+        (p .2)
+
+    pub served-full : (s : State) → Going s → let f : ℕ → State → State = λ i. serveMissed E (here k j i) dst t args vs col in missed f s .status ≡ full → NoRoom (s .bindings) vs (missed f s)
+    unfolding missed
+    served-full s g e =
+        let f : ℕ → State → State = λ i. serveMissed E (here k j i) dst t args vs col in
+        turns-end (λ z. z .status ≡ full → NoRoom (s .bindings) vs z) isMissed f s
+        (λ x y _ q. let z : State = turns isMissed f s x in
+        subst (λ b. NoRoom b vs (f x z)) (pass k j isMissed f (Served E k j dst t args) (serve-turn E k j dst t args vs col) s 0 x (omega arith) .bindings) (serve-full x z (missed-goes z x y) q))
+        (λ q. absurd (subst (λ o. T (isGoing o)) q g)) (length (s .live)) (λ q. stuck≢full (sym q ∙ e)) e

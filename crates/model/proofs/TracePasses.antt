@@ -10,7 +10,7 @@ use mathlib.Core.List.{List}
 use lib.Dec.{T, T-not}
 use lib.ListN.{length, getD}
 use Rattle.model.specs.Basics.{iter, when}
-use Rattle.model.specs.Machine.State.{State, Site, Record, Event, mask, reads, took, asks, Status, isGoing}
+use Rattle.model.specs.Machine.State.{State, Site, Record, Event, mask, reads, took, asks, isGoing}
 use Rattle.model.specs.Machine.Steps.{here, isLive, isNone, lanes, missed}
 use Rattle.model.specs.Claims.Trace.{In}
 use Rattle.model.specs.Laws.Logic.{and-T, T-and, T-cases, either, le-cases, when-cases}
@@ -78,10 +78,10 @@ when-yes false f s t = absurd t
 abbrev pub turns : (State → ℕ → Bool) → (ℕ → State → State) → State → ℕ → State
 turns b f s n = iter (λ i s′. when (b s′ i) (f i) s′) n s
 
--- where each turn ends with Z, the pass does
-pub turns-end : (Z : Status → Type 0) (b : State → ℕ → Bool) (f : ℕ → State → State) → ((x : ℕ) (s : State) → T (b s x) → Unstuck (f x s) → Z (f x s .status)) → (s : State) (n : ℕ) → Z (s .status) → Unstuck (turns b f s n) → Z (turns b f s n .status)
-turns-end Z b f h s zero z u = z
-turns-end Z b f h s (suc n) z u = when-cases (λ y. Unstuck y → Z (y .status)) (b (turns b f s n) n) (f n) (turns b f s n) (λ t. h n (turns b f s n) t) (λ _. turns-end Z b f h s n z) u
+-- what holds at the start, and after each turn that is not stuck
+pub turns-end : (P : State → Type 0) (b : State → ℕ → Bool) (f : ℕ → State → State) (s : State) → ((x : ℕ) → let z : State = turns b f s x in T (b z x) → Unstuck (f x z) → P (f x z)) → P s → (n : ℕ) → Unstuck (turns b f s n) → P (turns b f s n)
+turns-end P b f s h p zero u = p
+turns-end P b f s h p (suc n) u = when-cases (λ y. Unstuck y → P y) (b (turns b f s n) n) (f n) (turns b f s n) (h n) (λ _. turns-end P b f s h p n) u
 
 -- at sites of step k and instruction j; A is what lane x asks for in a state
 module _ (k j : ℕ) (b : State → ℕ → Bool) (f : ℕ → State → State) (A : ℕ → State → ℕ → List ℕ → Type 0) (h : (x : ℕ) (s : State) → Turn (here k j x) (A x s) s (f x s)) (s : State) where

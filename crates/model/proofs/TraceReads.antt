@@ -5,26 +5,30 @@ use mathlib.Core.Path.{_≡_, refl, sym, ap, _∙_, subst}
 use mathlib.Core.Logic.{_⊎_, inl, inr, _≢_}
 use mathlib.Core.Bool.{Bool, true, false}
 use mathlib.Core.Option.{none, some}
-use mathlib.Core.List.{List, []}
+use mathlib.Core.List.{List, [], _∷_}
 use lib.Dec.{T}
 use lib.ListN.{length, getD, getElem?, length-replicate}
 use Rattle.model.specs.Book.Syntax.{QueryEntry, WriteVal, Instr, LookupOrInsertDefault, LookupWithDefault, Lookup, LookupWithFallback, Insert, InsertIfEq, Remove, External, ExternalWithFallback, AssertEq, AssertNe, AssertAnyNe, ReadCounter}
-use Rattle.model.specs.Machine.State.{State, Site, Record, reads, took, asks, full, isGoing, Env, note, give, lose, withCounters, logged}
-use Rattle.model.specs.Machine.Values.{hold, valueOf, valuesOf, listOf, find}
-use Rattle.model.specs.Machine.Steps.{here, tableOf, wait, plain, clear, lanes, missed, lookup, invoke, serveMissed, takeColumn, takeDefault, body}
+use Rattle.model.specs.Machine.State.{State, Site, Record, Event, reads, took, asks, full, isGoing, Env, note, give, lose, withCounters, logged}
+use Rattle.model.specs.Machine.Values.{hold, valueOf, valuesOf, listOf}
+use Rattle.model.specs.Machine.Steps.{here, tableOf, wait, plain, clear, lanes, missed, lookup, invoke, serveMissed, takeColumn, body}
 use Rattle.model.specs.Check.{entriesOf}
-use Rattle.model.specs.Claims.Trace.{In, LookupAt, lookupOf, readFirst, readThen, Misses, Goes}
+use Rattle.model.specs.Claims.Trace.{In, readFirst, readThen, Misses, Goes}
 use Rattle.model.specs.Laws.Logic.{none-some, some-inj, either}
 use Rattle.model.specs.Safety.Lanes.{live-below}
 use Rattle.model.proofs.Idle.{not-going, missed-idle}
+use Rattle.model.proofs.Room.{stuck≢full}
 use Rattle.model.proofs.Grown.{in-cons, in-none, Longer, longer-trans, longer-new, Going, Unstuck, going-unstuck}
-use Rattle.model.proofs.Entries.{list-values, hold-value, hold-values, build-word}
+use Rattle.model.proofs.Entries.{Word, list-values, hold-value, hold-values, build-word}
 use Rattle.model.proofs.TraceTurns.{moves-in, moves-refl, Turn, Quiet}
-use Rattle.model.proofs.TracePasses.{Apart, Unread, AtTurn, turn-unstuck, turn-went, CutAt, Later, lanes-cut, missed-cut, lanes-at, missed-at, missed-past, missed-later}
-use Rattle.model.proofs.Went.{column-went, rowOf, RowWent, look-went, serve-went, call-went}
-use Rattle.model.proofs.TraceBodies.{none-at, Took, took-later, gave-took, Waits, waits, firstTurn, look-turn, first-turn, call-turn, Served, serve-turn, looked}
-use Rattle.model.proofs.TraceEnds.{first-ends, looks-go, calls-go, missed-go}
+use Rattle.model.proofs.TracePasses.{Apart, Unread, AtTurn, turn-unstuck, turn-went, CutAt, Later, lanes-cut, missed-cut, lanes-at, missed-at, missed-past, lanes-later, missed-later}
+use Rattle.model.proofs.Went.{column-went, rowOf, RowWent, cut-unlogged, look-went, serve-went, call-went}
+use Rattle.model.proofs.TraceBodies.{none-at, Took, gave-took, Waits, waits, firstTurn, look-turn, first-turn, call-turn, Served, serve-turn, looked}
+use Rattle.model.proofs.TraceEnds.{first-ends, looks-go, calls-go, missed-go, NoRoom, served-full}
 use Rattle.model.proofs.TraceNotes.{EntryNoted, noted-later, list-entry, call-notes, first-notes, default-notes, equal-notes}
+
+reads-site : {o p : Site} {ws us : List ℕ} {x y : List Event} → reads o ws ∷ x ≡ reads p us ∷ y → o ≡ p
+reads-site e = cc
 
 -- lane i is live in s₀, where the instruction begins
 module _ (E : Env) (k j : ℕ) (s₀ : State) (g₀ : Going s₀) (i : ℕ) (l : T (getD (s₀ .live) i false)) where
@@ -88,6 +92,9 @@ module _ (E : Env) (k j : ℕ) (s₀ : State) (g₀ : Going s₀) (i : ℕ) (l :
     abbrev served : State
     served = missed (λ x. serveMissed E (here k j x) dst t args vs col) (first loid)
 
+    first-on : Unstuck served → Going (first loid)
+    first-on u = looks-go E k j t args col s g₀ (λ q. u (ap (λ z. z .status) (missed-idle _ (first loid) (ap isGoing q)) ∙ q))
+
     first-goes : T (isGoing (served .status)) → T (isGoing (first loid .status))
     first-goes g = missed-later k j _ (Served E k j dst t args) (serve-turn E k j dst t args vs col) (first loid) .grows .goes g
 
@@ -126,7 +133,8 @@ module _ (E : Env) (k j : ℕ) (s₀ : State) (g₀ : Going s₀) (i : ℕ) (l :
             unstuck = turn-unstuck a u;
             after = a .after;
           }))
-          (λ p. inr (λ g. p .0 (a .after .grows .goes g), longer-trans _ (s .log) (a .start .log) (served .log) log (subst (λ y. Longer (λ q. q .site .lane ≢ i) y (served .log)) (p .1) (a .after .grows .log))))
+          (λ p. let n = cut-unlogged o E (note (reads o (c .0)) (a .start)) (hold dst (a .start .bindings)) (c .0) vs (serve (a .start)) p in
+          inr (λ g. n .0 (a .after .grows .goes g), longer-trans _ (s .log) (a .start .log) (served .log) log (subst (λ y. Longer (λ q. q .site .lane ≢ i) y (served .log)) (n .1) (a .after .grows .log))))
           (c .2))
           (λ c. inr (c .stopped, longer-trans _ (s .log) (first loid .log) (served .log) (w .log) (c .before .grows .log)))
           (missed-cut k j _ (Served E k j dst t args) (serve-turn E k j dst t args vs col) (first loid) i (w .live) (w .out))
@@ -166,6 +174,18 @@ module _ (E : Env) (k j : ℕ) (s₀ : State) (g₀ : Going s₀) (i : ℕ) (l :
         absurd (none-new (longer-trans _ (s .log) (first loid .log) (served .log) (p .2 .1) (past .grows .log))))
         (λ p. either (λ v. serve-words (c .0) v r n le at here′ e h) (λ q. absurd (none-new (q .1))) (serves (c .0) (read, p .0) g u))
         (looked E k j t args col (λ _. wait) (look-turn E k j t args col) s size i l (c .0) read g)
+
+    -- where a row that is built has no room, it is in the last event,
+    pub part-last : served .status ≡ full → NoRoom E k j (s .bindings) vs served
+    part-last is = subst (λ b. NoRoom E k j b vs served) (lanes-later k j _ (λ _ _. Quiet) (first-turn E k j loid) s .bindings) (served-full E k j dst t args vs col (first loid) (first-on (λ q. stuck≢full (sym q ∙ is))) is)
+
+    -- and the words of the entries are in it
+    refused-entries : (r : List ℕ) (older : List Event) → served .status ≡ full → served .trace ≡ reads o r ∷ older → (e : QueryEntry) → In e (entriesOf vs) → EntryNoted (served .trace) o (s .bindings) e
+    refused-entries r older is last e h =
+        let p = part-last is in
+        let lane : p .0 ≡ i = ap (λ y. y .lane) (reads-site (sym (p .3) ∙ last)) in
+        let w : Word (s .bindings) i (p .1) e = subst (λ x. Word (s .bindings) x (p .1) e) lane (p .4 e h) in
+        (w .0, w .1, (p .1, inl (0, subst (λ x. getElem? x 0 ≡ some (reads o (p .1))) (sym (p .3)) (ap (λ x. some (reads (here k j x) (p .1))) lane)), w .2))
 
   -- ## The lanes' part
 
@@ -223,65 +243,34 @@ module _ (E : Env) (k j : ℕ) (s₀ : State) (g₀ : Going s₀) (i : ℕ) (l :
   pub part-first : (ins : Instr) → Unstuck (part ins) → (e : QueryEntry) → In e (readFirst ins) → EntryNoted (part ins .trace) o (s .bindings) e ⊎ PartCut ins
   part-first ins u e h = entry-after ins e (inl h) (λ s′ _ u′. first-notes E k j i s′ ins u′ e h) u
 
-  pub part-then : (ins : Instr) (s′ : State) → s′ .log ≡ part ins .log → Unstuck (part ins) → (e : QueryEntry) → In e (readThen ins) → Goes E k j s₀ s′ i ins → EntryNoted (part ins .trace) o (s .bindings) e ⊎ PartCut ins
+  pub part-then : (ins : Instr) (s′ : State) → s′ .log ≡ part ins .log → (s′ .status ≡ full → s′ ≡ part ins) → Unstuck (part ins) → (e : QueryEntry) → In e (readThen ins) → Goes E k j s₀ s′ i ins → EntryNoted (part ins .trace) o (s .bindings) e ⊎ PartCut ins
   unfolding body readThen
-  part-then (LookupOrInsertDefault t args vs col dst) s′ q u e h y =
-      let ins : Instr = LookupOrInsertDefault t args vs col dst in
-      inl (serve-entries dst t args vs col (looks-go E k j t args col s g₀ (first-unstuck ins (inr h) u)) u (y .0) (y .1) (y .2) (subst (λ x. getElem? x (y .1) ≡ some (y .0)) q (y .3)) (y .4) e h)
-  part-then (LookupWithDefault t args col dst x) s′ q u e h y =
+  part-then (LookupOrInsertDefault t args vs col dst) s′ q same u e h y =
+      inl (either
+      (λ p. serve-entries dst t args vs col (first-on dst t args vs col u) u (p .0) (p .1) (p .2) (subst (λ x. getElem? x (p .1) ≡ some (p .0)) q (p .3)) (p .4) e h)
+      (λ p. refused-entries dst t args vs col (p .1) (p .2) (sym (ap (λ z. z .status) (same (p .0))) ∙ p .0) (sym (ap (λ z. z .trace) (same (p .0))) ∙ p .3) e h) y)
+  part-then (LookupWithDefault t args col dst x) s′ q same u e h y =
       entry-after (LookupWithDefault t args col dst x) e (inr h) (λ z b u′.
       subst (λ w. EntryNoted (firstTurn E k j (LookupWithDefault t args col dst x) i z .trace) o (z .bindings) w) (either (λ p. p) (λ p. absurd (in-none p)) (in-cons x [] h))
       (default-notes E k j i z t args col x (y .0) (subst (λ c. valuesOf c i args ≡ some (y .0)) (sym b) (y .1 .0), y .1 .1) u′)) u
-  part-then (Lookup t args col dst) s′ q u e h y = absurd y
-  part-then (LookupWithFallback t key f args col dst) s′ q u e h y =
+  part-then (Lookup t args col dst) s′ q same u e h y = absurd y
+  part-then (LookupWithFallback t key f args col dst) s′ q same u e h y =
       let ins : Instr = LookupWithFallback t key f args col dst in
       let g : Going (first ins) = looks-go E k j t key col s g₀ (first-unstuck ins (inr h) u) in
       inl (call-entries 0 dst f args (first ins) (look-waits t key col (y .0) (y .1) g) (missed-go E k j 0 dst f args (first ins) g u) e h)
-  part-then (Insert t vals) s′ q u e h y = absurd y
-  part-then (InsertIfEq t l r vals) s′ q u e h y =
+  part-then (Insert t vals) s′ q same u e h y = absurd y
+  part-then (InsertIfEq t l r vals) s′ q same u e h y =
       entry-after (InsertIfEq t l r vals) e (inr h) (λ z b u′. list-entry (equal-notes E k j i z t l r vals (y .0) (subst (λ c. valueOf c i l ≡ some (y .0)) (sym b) (y .1)) (subst (λ c. valueOf c i r ≡ some (y .0)) (sym b) (y .2)) u′) e h) u
-  part-then (Remove t args) s′ q u e h y = absurd y
-  part-then (External f args dst) s′ q u e h y = absurd y
-  part-then (ExternalWithFallback f1 args1 f2 args2 dst) s′ q u e h y =
+  part-then (Remove t args) s′ q same u e h y = absurd y
+  part-then (External f args dst) s′ q same u e h y = absurd y
+  part-then (ExternalWithFallback f1 args1 f2 args2 dst) s′ q same u e h y =
       let ins : Instr = ExternalWithFallback f1 args1 f2 args2 dst in
       let g : Going (first ins) = calls-go E k j f1 args1 s g₀ (first-unstuck ins (inr h) u) in
       inl (call-entries 1 dst f2 args2 (first ins) (call-waits f1 args1 f2 args2 dst (y .0) (y .1) (y .2) g) (missed-go E k j 1 dst f2 args2 (first ins) g u) e h)
-  part-then (AssertEq x z) s′ q u e h y = absurd y
-  part-then (AssertNe x z) s′ q u e h y = absurd y
-  part-then (AssertAnyNe d ops) s′ q u e h y = absurd y
-  part-then (ReadCounter c dst) s′ q u e h y = absurd y
-
-  -- the committed row of a lookup
-  module _ (key r : List ℕ) where
-    abbrev Finds : LookupAt → Type 0
-    Finds f = (valuesOf (s .bindings) i (f .key) ≡ some key) × (find (tableOf E (f .table) .keys) (tableOf E (f .table) .rows) key ≡ some r)
-
-    look-took : (t : ℕ) (args : List QueryEntry) (col : ℕ) (miss : ℕ → State → State) (h : (x : ℕ) (s : State) → Turn (here k j x) Quiet s (lookup E (here k j x) t args col (miss x) s)) → (valuesOf (s .bindings) i args ≡ some key) × (find (tableOf E t .keys) (tableOf E t .rows) key ≡ some r)
-        → T (isGoing (lanes (λ x. lookup E (here k j x) t args col (miss x)) s .status)) → Took o col r (lanes (λ x. lookup E (here k j x) t args col (miss x)) s)
-    look-took t args col miss h p g = either
-        (λ q. subst (λ y. Took o col y (lanes (λ x. lookup E (here k j x) t args col (miss x)) s)) (some-inj (sym (q .1) ∙ p .1)) (q .2 .0))
-        (λ q. absurd (none-some (sym (q .0) ∙ p .1)))
-        (looked E k j t args col miss h s size i l key (p .0) g)
-
-    pub part-took : (ins : Instr) (f : LookupAt) → lookupOf ins ≡ some f → T (isGoing (part ins .status)) → Finds f → Took o (f .col) r (part ins)
-    unfolding lookupOf body
-    part-took (LookupOrInsertDefault t args vs col dst) f e g = subst (λ y. Finds y → Took o (y .col) r (part (LookupOrInsertDefault t args vs col dst))) (some-inj e) (λ p.
-        let w = look-took t args col (λ _. wait) (look-turn E k j t args col) p (first-goes dst t args vs col g) in
-        took-later w (missed-past k j _ (Served E k j dst t args) (serve-turn E k j dst t args vs col) _ i (w .word) (w .dst)))
-    part-took (LookupWithDefault t args col dst x) f e g = subst (λ y. Finds y → Took o (y .col) r (part (LookupWithDefault t args col dst x))) (some-inj e) (λ p. look-took t args col (λ i. takeDefault (here k j i) x) (first-turn E k j (LookupWithDefault t args col dst x)) p g)
-    part-took (Lookup t args col dst) f e g = subst (λ y. Finds y → Took o (y .col) r (part (Lookup t args col dst))) (some-inj e) (λ p. look-took t args col (λ i. lose i) (first-turn E k j (Lookup t args col dst)) p g)
-    part-took (LookupWithFallback t key′ c args col dst) f e g = subst (λ y. Finds y → Took o (y .col) r (part (LookupWithFallback t key′ c args col dst))) (some-inj e) (λ p.
-        let w = look-took t key′ col (λ _. wait) (look-turn E k j t key′ col) p (missed-later k j _ (λ _ _. Quiet) (call-turn E k j 0 dst c args) _ .grows .goes g) in
-        took-later w (missed-past k j _ (λ _ _. Quiet) (call-turn E k j 0 dst c args) _ i (w .word) (w .dst)))
-    part-took (Insert t vals) f e g = absurd (none-some e)
-    part-took (InsertIfEq t x y vals) f e g = absurd (none-some e)
-    part-took (Remove t args) f e g = absurd (none-some e)
-    part-took (External c args dst) f e g = absurd (none-some e)
-    part-took (ExternalWithFallback f1 args1 f2 args2 dst) f e g = absurd (none-some e)
-    part-took (AssertEq x y) f e g = absurd (none-some e)
-    part-took (AssertNe x y) f e g = absurd (none-some e)
-    part-took (AssertAnyNe d ops) f e g = absurd (none-some e)
-    part-took (ReadCounter c dst) f e g = absurd (none-some e)
+  part-then (AssertEq x z) s′ q same u e h y = absurd y
+  part-then (AssertNe x z) s′ q same u e h y = absurd y
+  part-then (AssertAnyNe d ops) s′ q same u e h y = absurd y
+  part-then (ReadCounter c dst) s′ q same u e h y = absurd y
 
   -- the predicted row, where no committed row has the key
   pub part-asks : (t : ℕ) (args : List QueryEntry) (vs : List WriteVal) (col dst : ℕ) (key : List ℕ) → T (isGoing (part (LookupOrInsertDefault t args vs col dst) .status)) → Misses E s i t args key

@@ -1,6 +1,6 @@
 -- What a lane's turn came to if the machine is not stuck after it: the converse of `Turns`.
 use Prim.Native.Nat.{ℕ, _+_}
-use mathlib.Core.Path.{_≡_, refl, ap}
+use mathlib.Core.Path.{_≡_, refl, ap, subst}
 use mathlib.Core.Logic.{_⊎_, inl, inr}
 use mathlib.Core.Bool.{Bool, true, false, not}
 use mathlib.Core.Option.{none, some}
@@ -9,7 +9,7 @@ use lib.Dec.{eqb, leb}
 use lib.ListN.{length, getElem?, take, drop}
 use Rattle.model.specs.Basics.{only, first, when}
 use Rattle.model.specs.Book.Syntax.{Counter, QueryEntry, WriteVal, width}
-use Rattle.model.specs.Machine.State.{State, Site, Record, reads, took, asks, full, Bindings, Env, stop, note, give, lose, withCounters, change, logged, logWords}
+use Rattle.model.specs.Machine.State.{State, Site, Record, reads, took, asks, spent, full, Bindings, Env, stop, note, give, lose, withCounters, change, logged, logWords}
 use Rattle.model.specs.Machine.Values.{hold, valueOf, valuesOf, listOf, find, predictedRows, Built, isStuck, isSpent, built, build}
 use Rattle.model.specs.Machine.Steps.{tableOf, stageNew, rowStart, predictRow, takeColumn, lookup, invoke, takeDefault, serveMissed, stageList, readPair, anyNe, assertAnyNe}
 use Rattle.model.specs.Laws.Logic.{found-ind, only-some, only-yes}
@@ -102,12 +102,17 @@ module _ (o : Site) where
           (((first (predictedRows (tableOf E t .keys) t key (s .log)) ≡ some r) × (z ≡ k false r s))
           ⊎ ((cs : List Counter) × (first (predictedRows (tableOf E t .keys) t key (s .log)) ≡ none) × (build b (o .lane) vs (built key (s .counters)) ≡ built r cs) × (z ≡ k true r (logged (rowOf t r) (note (reads o r) (withCounters cs s))))))
 
-      -- or the run stops before it: a counter is spent, or the log is full
-      abbrev pub Unlogged : State → Type 0
-      Unlogged z = (Going z → ⊥) × (z .log ≡ s .log)
+      -- or a counter is spent, or the row that is built has no room
+      abbrev pub RowCut : Bindings → List ℕ → List WriteVal → State → Type 0
+      RowCut b key vs z = (z ≡ stop spent s) ⊎ ((r : List ℕ) × (cs : List Counter) × (build b (o .lane) vs (built key (s .counters)) ≡ built r cs) × (z ≡ stop full (note (reads o r) (withCounters cs s))))
+
+      -- in both cases the run has stopped, and nothing is logged
+      pub cut-unlogged : (b : Bindings) (key : List ℕ) (vs : List WriteVal) (z : State) → RowCut b key vs z → (Going z → ⊥) × (z .log ≡ s .log)
+      cut-unlogged b key vs z (inl e) = (λ g. subst Going e g, ap (λ x. x .log) e)
+      cut-unlogged b key vs z (inr (r, cs, q, e)) = (λ g. subst Going e g, ap (λ x. x .log) e)
 
       pub row-went : (b : Bindings) (t : ℕ) (key : List ℕ) (vs : List WriteVal) (k : Bool → List ℕ → State → State) → Unstuck (predictRow E o b t key vs s k)
-          → RowWent b t key vs k (predictRow E o b t key vs s k) ⊎ Unlogged (predictRow E o b t key vs s k)
+          → RowWent b t key vs k (predictRow E o b t key vs s k) ⊎ RowCut b key vs (predictRow E o b t key vs s k)
       unfolding predictRow
       row-went b t key vs k =
           found-ind P (first (predictedRows (tableOf E t .keys) t key (s .log))) _ _ (λ r e u. inl (r, inl (e, refl))) (λ e.
@@ -115,20 +120,20 @@ module _ (o : Site) where
           new e (build b (o .lane) vs B) (ap (build b (o .lane) vs) (only-yes (eqb (length key + length vs) (width (tableOf E t))) _ _ q .1))))
         where
           P : State → Type 0
-          P = If (λ z. RowWent b t key vs k z ⊎ Unlogged z)
+          P = If (λ z. RowWent b t key vs k z ⊎ RowCut b key vs z)
 
           new : first (predictedRows (tableOf E t .keys) t key (s .log)) ≡ none → (B : Built) → build b (o .lane) vs (built key (s .counters)) ≡ B → P (stageNew E o t B s (k true))
           new e isStuck q = λ u. absurd (u refl)
-          new e isSpent q = λ u. inr (λ g. g, refl)
-          new e (built r cs) q = room-ind P (E .room (logWords (s .log ++ (rowOf t r ∷ [])))) _ _ _ (λ u. inl (r, inr (cs, e, q, refl))) (λ u. inr (λ g. g, refl))
+          new e isSpent q = λ u. inr (inl refl)
+          new e (built r cs) q = room-ind P (E .room (logWords (s .log ++ (rowOf t r ∷ [])))) _ _ _ (λ u. inl (r, inr (cs, e, q, refl))) (λ u. inr (inr (r, cs, q, refl)))
 
     -- the key, the row, and its column
     pub serve-went : (s : State) (dst t : ℕ) (args : List QueryEntry) (vs : List WriteVal) (col : ℕ) → Unstuck (serveMissed E o dst t args vs col s)
         → (key : List ℕ) × (listOf (hold dst (s .bindings)) (o .lane) (tableOf E t .keys) args ≡ some key)
-        × (RowWent (note (reads o key) s) (hold dst (s .bindings)) t key vs (λ _ r s′. takeColumn o col r (note (asks o t key r) s′)) (serveMissed E o dst t args vs col s) ⊎ Unlogged s (serveMissed E o dst t args vs col s))
+        × (RowWent (note (reads o key) s) (hold dst (s .bindings)) t key vs (λ _ r s′. takeColumn o col r (note (asks o t key r) s′)) (serveMissed E o dst t args vs col s) ⊎ RowCut (note (reads o key) s) (hold dst (s .bindings)) key vs (serveMissed E o dst t args vs col s))
     unfolding serveMissed
     serve-went s dst t args vs col =
         need-ind (If (λ z. (key : List ℕ) × (listOf (hold dst (s .bindings)) (o .lane) (tableOf E t .keys) args ≡ some key)
-        × (RowWent (note (reads o key) s) (hold dst (s .bindings)) t key vs (λ _ r s′. takeColumn o col r (note (asks o t key r) s′)) z ⊎ Unlogged s z)))
+        × (RowWent (note (reads o key) s) (hold dst (s .bindings)) t key vs (λ _ r s′. takeColumn o col r (note (asks o t key r) s′)) z ⊎ RowCut (note (reads o key) s) (hold dst (s .bindings)) key vs z)))
         (listOf (hold dst (s .bindings)) (o .lane) (tableOf E t .keys) args) s _ (λ u. absurd (u refl)) (λ key e u.
         (key, e, row-went (note (reads o key) s) (hold dst (s .bindings)) t key vs _ u))

@@ -85,9 +85,10 @@ module _ (E : Env) where
   abbrev pub Misses : State → ℕ → ℕ → List QueryEntry → List ℕ → Type 0
   Misses s i t args key = (valuesOf (s .bindings) i args ≡ some key) × (find (tableOf E t .keys) (tableOf E t .rows) key ≡ none)
 
-  -- where lane i comes to the entries of `readThen`: it stages a row, found no row, l = r, f1 gave nothing
+  -- where lane i comes to the entries of `readThen`: it stages a row, or is the last to read since the log has no room for its row; found no row; l = r; f1 gave nothing
   abbrev pub Goes : (k j : ℕ) → State → State → ℕ → Instr → Type 0
-  Goes k j s s′ i (LookupOrInsertDefault t args vs col dst) = (r : Record) × (n : ℕ) × (length (s .log) ≤ n) × (getElem? (s′ .log) n ≡ some r) × (r .site ≡ here k j i)
+  Goes k j s s′ i (LookupOrInsertDefault t args vs col dst) = ((r : Record) × (n : ℕ) × (length (s .log) ≤ n) × (getElem? (s′ .log) n ≡ some r) × (r .site ≡ here k j i))
+      ⊎ ((s′ .status ≡ full) × (r : List ℕ) × (older : List Event) × (s′ .trace ≡ reads (here k j i) r ∷ older))
   Goes k j s s′ i (LookupWithDefault t args col dst e) = (key : List ℕ) × Misses s i t args key
   Goes k j s s′ i (Lookup t args col dst) = ⊥
   Goes k j s s′ i (LookupWithFallback t key f args col dst) = (ws : List ℕ) × Misses s i t key ws
@@ -174,3 +175,8 @@ module _ (E : Env) where
     -- the words of each record in the log are in a `reads` event of its site
     abbrev pub RecordsNoted : Type 0
     RecordsNoted = (n m : ℕ) (r : Record) → getElem? (run E counters steps n .log) m ≡ some r → In (reads (r .site) (r .words)) (run E counters steps n .trace)
+
+    -- where a lookup-or-insert finds the log full, there is a last lane to read, as `Goes` has it
+    abbrev pub LastReads : Type 0
+    LastReads = (k j i t : ℕ) (args : List QueryEntry) (vs : List WriteVal) (col dst : ℕ) (c : Comes k j i (LookupOrInsertDefault t args vs col dst)) → post c .status ≡ full
+        → (x : ℕ) × (r : List ℕ) × (older : List Event) × (post c .trace ≡ reads (here k j x) r ∷ older)
