@@ -10,14 +10,14 @@ use lib.Dec.{T, T-not, eqb}
 use lib.ListN.{length, getD, length-replicate}
 use Rattle.model.specs.Basics.{only, first}
 use Rattle.model.specs.Book.Syntax.{Counter, QueryEntry, WriteVal, Instr, LookupOrInsertDefault, width, Step, prediction}
-use Rattle.model.specs.Machine.State.{State, Site, Event, Status, reads, asks, stuck, spent, full, isGoing, Bindings, Env, stop, note, withCounters, frame, logWords}
+use Rattle.model.specs.Machine.State.{State, Site, Event, Status, reads, asks, going, stuck, spent, full, isGoing, Bindings, Env, stop, note, withCounters, frame, logWords}
 use Rattle.model.specs.Machine.Values.{hold, valuesOf, listOf, find, predictedRows, Built, isStuck, isSpent, built, build}
 use Rattle.model.specs.Machine.Steps.{here, tableOf, wait, clear, lanes, missed, stageNew, rowStart, predictRow, takeColumn, serveMissed, body, predict, step, run}
-use Rattle.model.specs.Claims.Trace.{In, Misses, pre, lane, predicts, AsksComplete}
+use Rattle.model.specs.Claims.Trace.{In, Refused, Misses, pre, lane, predicts, AsksComplete}
 use Rattle.model.specs.Laws.Logic.{T-cases, found-ind, either, some-inj, none-some}
 use Rattle.model.specs.Laws.Turns.{need-ind, room-ind}
 use Rattle.model.proofs.Idle.{not-going, missed-idle}
-use Rattle.model.proofs.Grown.{newer-in, newer-cases, going-T, Going}
+use Rattle.model.proofs.Grown.{newer-in, newer-cases, Going}
 use Rattle.model.proofs.Entries.{hold-values, list-values}
 use Rattle.model.proofs.TraceTurns.{Moves, moves-refl, moves-note, moves-counters, moves-in, moves-stop, Turn, turn-refl, turn-closed, Quiet, column-closed}
 use Rattle.model.proofs.TracePasses.{Unread, AtTurn, Later, missed-cut, lanes-later, lanes-quiet}
@@ -135,6 +135,12 @@ module _ (E : Env) (k j t : ℕ) (args : List QueryEntry) (vs : List WriteVal) (
 
 -- ## In a run
 
+refused : (st : Status) → (T (isGoing st) → ⊥) → Refused st
+refused going n u = absurd (n tt)
+refused stuck n u = absurd (u refl)
+refused spent n u = inl refl
+refused full n u = inr refl
+
 module _ (E : Env) (counters : List Counter) (steps : List Step) where
   pub asks-complete : AsksComplete E counters steps
   unfolding body step
@@ -143,7 +149,7 @@ module _ (E : Env) (counters : List Counter) (steps : List Step) where
       either
       (λ p. inl (p .0, part-noted E counters steps c n lt (p .1)))
       (λ p. inr (
-        λ g. p .0 (part-goes E counters steps c (post-grows E counters steps c (suc k) (omega arith) .goes (going-T g))),
+        refused (run E counters steps (suc k) .status) (λ g. p .0 (part-goes E counters steps c (post-grows E counters steps c (suc k) (omega arith) .goes g))),
         λ y u ws r le q. not-before E counters steps c y (asks (here k j y) u ws r) (refl, tt) (p .1 y u ws r le (part-event E counters steps c n lt y (asks (here k j y) u ws r) (refl, tt) q)),
       ))
       (serve-pass E k j t args vs col dst (clear s) (length-replicate (length (s .live)) none) i (lane-live E counters steps c) (none-at (length (s .live)) i) key misses)
@@ -155,7 +161,7 @@ module _ (E : Env) (counters : List Counter) (steps : List Step) where
       either
       (λ p. inl (p .0, newer-in _ (run E counters steps (suc k) .trace) (run E counters steps n .trace) (more .trace) (subst (λ x. In (asks (here k 0 0) t key (p .0)) (x .trace)) (sym e) (p .1))))
       (λ p. inr (
-        λ y. p .0 (subst (λ x. T (isGoing (x .status))) e (going-T y)),
+        refused (run E counters steps (suc k) .status) (λ g. p .0 (subst Going e g)),
         λ y u ws r le q. either
             (λ (v : Among (suc k) n k). omega (arith, v .0))
             (λ v. either (λ own. asks≢reads _ _ _ _ _ _ (own .1)) (λ w. omega (arith, run-event E counters steps k (here k 0 y) (asks (here k 0 y) u ws r) (refl, tt) w)) (newer-cases (Reading (here k 0 0)) (s .trace) (z .trace) (p .1 .grows .trace) (subst (λ x. In (asks (here k 0 y) u ws r) (x .trace)) e v)))

@@ -8,7 +8,7 @@ use mathlib.Core.List.{List, [], _∷_}
 use lib.ListN.{length, getD, getElem?}
 use Rattle.model.specs.Book.Syntax.{Counter, QueryEntry, Var, WriteVal, Instr, LookupOrInsertDefault, LookupWithDefault, Lookup, LookupWithFallback, Insert, InsertIfEq, Remove, External, ExternalWithFallback, AssertEq, AssertNe, AssertAnyNe, ReadCounter, Step, batch, prediction, ruleAt}
 use Rattle.model.specs.Check.{entriesOf, readsOf}
-use Rattle.model.specs.Machine.State.{State, Site, Record, Event, reads, took, asks, going, stuck, full, predicted, Env}
+use Rattle.model.specs.Machine.State.{State, Site, Record, Event, reads, took, asks, Status, going, stuck, spent, full, predicted, Env}
 use Rattle.model.specs.Machine.Values.{valueOf, valuesOf, find}
 use Rattle.model.specs.Machine.Steps.{here, tableOf, begin, instructions, run}
 
@@ -19,6 +19,10 @@ In x xs = (i : ℕ) × (getElem? xs i ≡ some x)
 -- a word that the trace has lane o reading: from its entries, or from a row
 abbrev pub Noted : List Event → Site → ℕ → Type 0
 Noted tr o w = (ws : List ℕ) × (In (reads o ws) tr ⊎ In (took o ws) tr) × In w ws
+
+-- refusal 13 or 12, if the machine is not stuck
+abbrev pub Refused : Status → Type 0
+Refused st = st ≢ stuck → (st ≡ spent) ⊎ (st ≡ full)
 
 -- ## What an instruction makes a lane read
 
@@ -138,11 +142,11 @@ module _ (E : Env) where
     abbrev pub AsksSound : Type 0
     AsksSound = (n : ℕ) (o : Site) (t : ℕ) (key r : List ℕ) → In (asks o t key r) (run E counters steps n .trace) → Asker o t key × (o .step < n)
 
-    -- and each asker has one, unless the run was cut off before its row: then the step does not end, and no later lane of it has one either
+    -- and each asker has one, unless the step was refused before its row: then no later lane of the instruction has one either
     abbrev pub AsksComplete : Type 0
     AsksComplete = (n : ℕ) (o : Site) (t : ℕ) (key : List ℕ) → Asker o t key → o .step < n
         → ((r : List ℕ) × In (asks o t key r) (run E counters steps n .trace))
-        ⊎ ((run E counters steps (suc (o .step)) .status ≡ going → ⊥) × ((i t′ : ℕ) (key′ r : List ℕ) → o .lane ≤ i → In (asks (here (o .step) (o .instr) i) t′ key′ r) (run E counters steps n .trace) → ⊥))
+        ⊎ (Refused (run E counters steps (suc (o .step)) .status) × ((i t′ : ℕ) (key′ r : List ℕ) → o .lane ≤ i → In (asks (here (o .step) (o .instr) i) t′ key′ r) (run E counters steps n .trace) → ⊥))
 
     -- a stuck machine stays so: where the run is not stuck (demand 3), no instruction was
     abbrev pub StuckStays : Type 0
