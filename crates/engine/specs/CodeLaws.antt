@@ -10,7 +10,7 @@ use lib.Dec.{eqb, leb}
 use lib.ListN.{length, getD, replicate, length-replicate}
 use Rattle.model.specs.Book.Contents.{stepCount}
 use Rattle.model.specs.Laws.Logic.{and-split}
-use Rattle.model.specs.Book.Words.{bytesRefusal, wordsOf}
+use Rattle.model.specs.Book.Words.{Byte, bytesRefusal, wordsOf}
 use Rattle.model.specs.Outcome.{Lent, wordsRefusal, bookRefusal, Permitted}
 use Rattle.rules.specs.declared.Verdict.{Verdict}
 use Rattle.rules.specs.declared.Verdict.the-variants.{Pass}
@@ -24,7 +24,7 @@ use Rattle.engine.specs.declared.Outcome.{Outcome}
 use Rattle.engine.specs.declared.Outcome.the-variants.{Refused}
 use Rattle.engine.specs.Engine.{lentOf, lengthsFit, Runnable, Concludes, Decided, outcomeOf, AnswerLeft, keptAnswer}
 use Rattle.engine.specs.End.{RanOn, Settling, concluded}
-use Rattle.engine.specs.EngineLaws.{all-bytes, runnable, ran-on, run-concludes, decided-book, decided-run, permitted, answer-left}
+use Rattle.engine.specs.EngineLaws.{all-read, runnable, ran-on, run-concludes, decided-book, decided-run, permitted, answer-left}
 
 -- ## The lengths
 
@@ -61,7 +61,7 @@ module _ (book front : List ℕ) (is : front ≡ wordsOf book) (passed : bytesRe
   book-told = book-on book passed ∙ ap wordsRefusal (sym is) ∙ sym told
 
   pub front-runnable : ((i : ℕ) → getD book i 0 < 256) → v ≡ Pass → Runnable front
-  front-runnable bytes e = subst Runnable (sym is) (runnable book (all-bytes book bytes) passed (sym (book-on book passed) ∙ book-told ∙ ap verdictOf e))
+  front-runnable bytes e = subst Runnable (sym is) (runnable book (all-read Byte book bytes) passed (sym (book-on book passed) ∙ book-told ∙ ap verdictOf e))
 
   module _ (l : Lent) (ws : List ℕ) (fit : lengthsFit (l .bindings) (l .index) (l .log) (l .tables) ≡ true) where
     pub front-decided : v ≡ Pass → (r : Outcome) → Concludes front l r ws → Decided l book r ws

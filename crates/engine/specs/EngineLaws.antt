@@ -36,10 +36,10 @@ use Rattle.engine.specs.EndLaws.{ran-is, concludes}
 
 -- ## The book
 
--- each element is a byte
-pub all-bytes : (book : List ℕ) → ((i : ℕ) → getD book i 0 < 256) → All Byte book
-all-bytes [] h = tt
-all-bytes (x ∷ book) h = (h 0, all-bytes book (λ i. h (suc i)))
+-- each element is as each read says, as that it is a byte
+pub all-read : (P : ℕ → Type 0) (l : List ℕ) → ((i : ℕ) → P (getD l i 0)) → All P l
+all-read P [] h = tt
+all-read P (x ∷ l) h = (h 0, all-read P l (λ i. h (suc i)))
 
 pub runnable : (book : List ℕ) → All Byte book → bytesRefusal book ≡ none → wordsRefusal (wordsOf book) ≡ none → Runnable (wordsOf book)
 runnable book bytes first rest =

@@ -5,3 +5,4 @@ pub mod EngineLaws
 pub mod CounterLaws
 pub mod SettleLaws
 pub mod CodeLaws
+pub mod LogLaws
