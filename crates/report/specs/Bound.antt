@@ -1,4 +1,4 @@
--- How long a text is: the lines of an answer have at most 11 bytes for each of its words, so a buffer of that size holds them all.
+-- How long a text is: the lines of an answer have at most 11 bytes for each of its words, and the line of a refusal has 53 at most.
 use Prim.Native.Nat.{ℕ, zero, suc, _+_, _*_, _/_, _%_, _^_, _<_, _≤_}
 use mathlib.Core.Path.{_≡_, refl, sym, ap, _∙_}
 use mathlib.Core.Bool.{Bool, true, false, cond}
@@ -14,10 +14,10 @@ use Rattle.model.specs.Basics.{join, howMany, All}
 use Rattle.model.specs.Book.Syntax.{Counter, nextOf, Table}
 use Rattle.model.specs.Machine.State.{State, Record, Answer, survivors, predicted}
 use Rattle.model.specs.Answer.{Body, contentsFrom, layOut, flag, tableBody, counterBody, stepBody, logBody, recordWords, answer}
-use Rattle.model.specs.Printed.{Line, run, row, ins, del, changed, table, counter, stepLine, stepLines, recordLine, recordLines, tableLines, counterLines}
+use Rattle.model.specs.Printed.{Line, run, row, ins, del, changed, table, counter, refused, stepLine, stepLines, recordLine, recordLines, tableLines, counterLines}
 use Rattle.model.specs.Laws.Logic.{All-left, All-right}
-use Rattle.report.specs.Text.{digits, field, fields, runName, rowName, insName, delName, changedName, tableName, counterName, lineBytes, text, Text, upTo, pushed, appended}
-use Rattle.report.specs.TextLaws.{text-append}
+use Rattle.report.specs.Text.{digits, field, fields, runName, rowName, insName, delName, changedName, tableName, counterName, refusedName, atName, lineBytes, text, Text, upTo, pushed, appended}
+use Rattle.report.specs.TextLaws.{text-append, text-one}
 use Rattle.report.specs.Lines.{answerLines}
 use Rattle.report.specs.AnswerLines.{Fits, answer-lines}
 
@@ -71,6 +71,24 @@ short-named name ns h = omega (arith, length-append (name ++ fields ns) (10 ∷ 
 length-text : (l : Line) (ls : List Line) → length (text (l ∷ ls)) ≡ length (lineBytes l) + length (text ls)
 unfolding text
 length-text l ls = length-append (lineBytes l) (text ls)
+
+-- ## The line of a refusal
+
+most-digits : (d n : ℕ) → length (digits d n) ≤ d
+unfolding digits
+most-digits zero n = omega arith
+most-digits (suc d) n = by (ltb n 10) (most-digits d (n / 10))
+  where
+    by : (b : Bool) → length (digits d (n / 10)) ≤ d → length (cond b ((48 + n) ∷ []) (digits d (n / 10) ++ ((48 + n % 10) ∷ []))) ≤ suc d
+    by true h = omega arith
+    by false h = omega (arith, length-append (digits d (n / 10)) ((48 + n % 10) ∷ []))
+
+-- two names, two numbers of 20 digits at most, two blanks, a line feed
+pub refused-short : (n p : ℕ) → length (text (refused n p ∷ [])) ≤ 53
+unfolding lineBytes
+refused-short n p =
+    let a = refusedName ++ field n in
+    rw (text-one (refused n p)) (omega (arith, most-digits 20 n, most-digits 20 p, length-append (a ++ atName ++ field p) (10 ∷ []), length-append (a ++ atName) (field p), length-append a atName, length-append refusedName (field n)))
 
 -- ## Bodies: three words of contents each, and their own
 

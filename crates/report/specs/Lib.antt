@@ -4,5 +4,5 @@ pub mod Lines
 pub mod LinesLaws
 pub mod Entries
 pub mod AnswerLines
-pub mod Prints
 pub mod Bound
+pub mod Prints

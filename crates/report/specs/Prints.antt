@@ -1,5 +1,5 @@
--- The lines of any outcome that the engine may return for a book are those that the book prints.
-use Prim.Native.Nat.{ℕ, zero, suc, _<_}
+-- The lines of any outcome that the engine may return for a book are those that the book prints, and how many bytes they have at most.
+use Prim.Native.Nat.{ℕ, zero, suc, _*_, _^_, _<_, _≤_}
 use mathlib.Core.Path.{_≡_, refl, sym, ap, _∙_}
 use mathlib.Core.Option.{Option, none, some}
 use mathlib.Core.List.{List, [], _∷_, _++_, reverse}
@@ -19,12 +19,19 @@ use Rattle.model.specs.Printed.{Line, refused as refusedLine, table, changed, s
 use Rattle.model.specs.Laws.Logic.{All-map}
 use Rattle.model.specs.Laws.Lists.{length-tab}
 use Rattle.commit.specs.RecordLaws.{Sized}
+use Rattle.report.specs.Text.{text}
 use Rattle.report.specs.Lines.{answerLines}
 use Rattle.report.specs.AnswerLines.{Fits, answer-lines}
+use Rattle.report.specs.Bound.{Small, refused-short, answer-short}
 
 abbrev pub outcomeLines : Outcome → List Line
 outcomeLines (refused r) = refusedLine (r .number) (r .place) ∷ []
 outcomeLines (accepted ws) = answerLines ws
+
+-- an answer has n words at most, each below 10 ^ 10
+abbrev pub Narrow : ℕ → Outcome → Type 0
+Narrow n (refused r) = Unit {0}
+Narrow n (accepted ws) = All Small ws × (length ws ≤ n)
 
 -- ## Tables of the same shape
 
@@ -108,12 +115,28 @@ module _ (l : Lent) (book : List ℕ) where
   unfolding outcome
   outcome-accepted e = rw e
 
-  -- the log's records are as long as their tables ask
-  pub permitted-lines : (o : Outcome) → Permitted l book o → All (Sized (wordsOf book)) (left l book .log) → outcomeLines o ≡ printed l book
-  permitted-lines o p sized = by (refusal l book) refl o p
+  -- an accepted book draws no refusal
+  unrefused : (ws : List ℕ) → outcome l book ≡ accepted ws → refusal l book ≡ none
+  unrefused ws a = by (refusal l book) refl
     where
-      by : (x : Option Refusal) → refusal l book ≡ x → (o : Outcome) → Permitted l book o → outcomeLines o ≡ printed l book
-      by none e (refused r) p = let z : _≡_ {A = ℕ} 0 1 = clash (sym (outcome-accepted e) ∙ p) in absurd (omega arith)
-      by none e (accepted ws) p = rw (p .2) (accepted-printed (p .0) e (p .1) sized)
-      by (some q) e (refused r) p = rw (its (sym (outcome-refused q e) ∙ p)) (refused-printed q e)
-      by (some q) e (accepted ws) p = let z : _≡_ {A = ℕ} 0 1 = clash (sym (p .3) ∙ outcome-refused q e) in absurd (omega arith)
+      by : (x : Option Refusal) → refusal l book ≡ x → refusal l book ≡ none
+      by none e = e
+      by (some q) e = let z : _≡_ {A = ℕ} 0 1 = clash (sym a ∙ outcome-refused q e) in absurd (omega arith)
+
+  -- where the book is accepted, the log's records are as long as their tables ask
+  module _ (sized : refusal l book ≡ none → All (Sized (wordsOf book)) (left l book .log)) where
+    pub permitted-lines : (o : Outcome) → Permitted l book o → outcomeLines o ≡ printed l book
+    permitted-lines (refused r) p = by (refusal l book) refl
+      where
+        by : (x : Option Refusal) → refusal l book ≡ x → refusedLine (r .number) (r .place) ∷ [] ≡ printed l book
+        by none e = let z : _≡_ {A = ℕ} 0 1 = clash (sym (outcome-accepted e) ∙ p) in absurd (omega arith)
+        by (some q) e = rw (its (sym (outcome-refused q e) ∙ p)) (refused-printed q e)
+    permitted-lines (accepted ws) p = let e = unrefused (answer (committed l book) (left l book)) (p .3) in rw (p .2) (accepted-printed (p .0) e (p .1) (sized e))
+
+    -- an answer of at most n words has lines of at most 11 n bytes; a refusal's line has 53 at most, which is no more from 5 words on
+    pub permitted-short : (n : ℕ) → 5 ≤ n → n ≤ 10 ^ 10 → (o : Outcome) → Permitted l book o → Narrow n o → length (text (outcomeLines o)) ≤ 11 * n
+    permitted-short n least most (refused r) p h = omega (arith, refused-short (r .number) (r .place))
+    permitted-short n least most (accepted ws) p h =
+        let fit = All-map (fits (p .0) (p .1)) (left l book .log) (sized (unrefused (answer (committed l book) (left l book)) (p .3))) in
+        let short = answer-short (p .0) (left l book) fit (rw (← p .2) (h .0)) (rw (← p .2) (omega (arith, h .1))) in
+        rw (p .2) (omega (arith, short, ap length (p .2), h .1))

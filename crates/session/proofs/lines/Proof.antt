@@ -1,5 +1,5 @@
 use mathlib.Core.Path.{_∙_}
-use Rattle.session.specs.Lines.{outcomeLines}
+use native.Mathlib.Omega.{arith}
 use borrow.Author.Needs.{needs}
 use Rattle.session.proofs.lines.Statement.{statement}
 use Rattle.session.proofs.lines.Tie as tie
@@ -23,15 +23,13 @@ same-length : tie.Need-same-length
 same-length c = search needs
 
 returns : tie.Need-returns
-unfolding outcomeLines
-returns c = rw (c .before .before .before .before .before .before .outcome .given .1) (c .before .before .accepted .ensures ∙ rw (c .before .before .before .before .front-words .ensures))
+returns c = (rw (c .before .before .before .before .before .before .outcome .given .1) (c .before .before .accepted .ensures ∙ rw (c .before .before .before .before .front-words .ensures)), λ i. omega (arith, c .before .before .before .before .before .before .before .before .before .shared-slice-known .given i))
 
 same-length-2 : tie.Need-same-length-2
 same-length-2 c = search needs
 
 returns-2 : tie.Need-returns-2
-unfolding outcomeLines
-returns-2 c = rw (c .before .before .before .before .before .outcome2 .given .1) (c .before .before .refused .ensures)
+returns-2 c = (rw (c .before .before .before .before .before .outcome2 .given .1) (c .before .before .refused .ensures), λ i. omega (arith, c .before .before .before .before .before .before .before .before .shared-slice-known .given i))
 
 pub lines-spec : {M : Type 1} → statement M
 lines-spec =
