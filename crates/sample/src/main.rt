@@ -2,12 +2,15 @@
 use engine::Outcome;
 use libc::STDIN_FILENO;
 use libc::STDOUT_FILENO;
-ghost use Prim.Native.Nat.{_≤_, _<_};
-ghost use lib.ListN.{length};
+ghost use mathlib.Core.Path.{_≡_};
+ghost use mathlib.Core.Bool.{true};
+ghost use Prim.Native.Nat.{ℕ, _+_, _≤_, _<_};
+ghost use lib.ListN.{length, getD};
+ghost use Rattle.model.specs.Book.Words.{wordsOf};
 
 // Word i of the sample, or 0 past its end.
 fn word(sample: &[u8], i: usize) -> usize
-    ensures { λ r. ⌜ r < 4294967296 ⌝ }
+    ensures { λ r. ⌜ (r ≡ getD (wordsOf (now (sample .entry))) i 0) × (r < 4294967296) ⌝ }
 {
     if i < sample.len() / 4 {
         words::size(words::word_at(sample, i))
@@ -55,7 +58,9 @@ fn size_at(sample: &[u8], p: usize) -> usize
     }
 }
 
-fn all_zero(words: &[u32]) -> bool {
+fn all_zero(words: &[u32]) -> bool
+    ensures { λ r. ⌜ (r ≡ true → (i : ℕ) → i < length (now (words .entry)) → getD (now (words .entry)) i 0 ≡ 0) ⌝ }
+{
     let mut i = 0;
     while i < words.len() {
         if words[i] != 0 {
@@ -69,6 +74,7 @@ fn all_zero(words: &[u32]) -> bool {
 // Whether the sample's words from `at` on are those of the answer.
 fn same_words(sample: &[u8], at: usize, answer: &[u32]) -> bool
     requires { ⌜ (at ≤ 4294967296) × (length (now answer) ≤ 20480) ⌝ }
+    ensures { λ r. ⌜ (r ≡ true → (i : ℕ) → i < length (now (answer .entry)) → getD (wordsOf (now (sample .entry))) (at + i) 0 ≡ getD (now (answer .entry)) i 0) ⌝ }
 {
     let mut i = 0;
     while i < answer.len() {
