@@ -9,7 +9,7 @@ use Rattle.tables.specs.declared.TableInfo.{TableInfo}
 use Rattle.tables.specs.Tables.{infoOf, Stands, rowAt}
 use Rattle.commit.specs.declared.Committed.{Committed}
 use Rattle.commit.specs.Rows.{Rows, appended}
-use Rattle.commit.specs.Walk.{removed, inserted}
+use Rattle.commit.specs.Walk.{removed, anyKey, inserted}
 
 -- a table of the book, with a word in each row
 pub record Ready (w : List ℕ) (i : TableInfo) : Type 0 where
@@ -24,6 +24,14 @@ module _ (w log : List ℕ) (t : ℕ) (i : TableInfo) where
   -- the first n rows of table t
   unfoldable pub kept : ℕ → Rows → Rows
   kept n s = iter (λ j. keepRow (rowAt i j)) n s
+
+-- the same where `gone` says at which words of the log the keys of removed rows stand
+module _ (w log gone : List ℕ) (i : TableInfo) where
+  unfoldable pub spareRow : ℕ → Rows → Rows
+  spareRow at s = cond (anyKey log (i .keys) (part w at (i .keys)) gone) s (appended (part w at (i .width)) s)
+
+  unfoldable pub spared : ℕ → Rows → Rows
+  spared n s = iter (λ j. spareRow (rowAt i j)) n s
 
 -- the words lent for rows, and the answer
 pub record Left : Type 0 where

@@ -4,6 +4,7 @@ pub mod Commit
 pub mod MergeLaws
 pub mod RowLaws
 pub mod WalkLaws
+pub mod KeyLaws
 pub mod TableLaws
 pub mod Laid
 pub mod RecordLaws

@@ -1,29 +1,40 @@
 -- What the loops over rows and tables lean on.
 use Prim.Native.Nat.{ℕ, _+_, _<_, _≤_}
-use mathlib.Core.Path.{_≡_, refl, _∙_}
+use mathlib.Core.Path.{_≡_, refl, ap, _∙_}
 use mathlib.Core.Bool.{Bool, true, false, cond}
 use mathlib.Core.List.{List}
 use native.Mathlib.Omega.{arith}
 use lib.ListN.{length}
 use Rattle.model.specs.Book.Decode.{part}
-use Rattle.model.specs.Laws.Iter.{iter-keeps}
+use Rattle.model.specs.Laws.Iter.{iter-keeps, iter-agree}
 use Rattle.model.specs.Laws.Bodies.{length-part}
 use Rattle.tables.specs.declared.TableInfo.{TableInfo}
 use Rattle.tables.specs.Tables.{infoOf, rowAt}
 use Rattle.tables.specs.TablesLaws.{row-within}
 use Rattle.commit.specs.Rows.{Rows, Sound, Stand, appended}
 use Rattle.commit.specs.RowLaws.{Keeps, append-keeps}
-use Rattle.commit.specs.Walk.{removed, inserted}
+use Rattle.commit.specs.Walk.{removed, removalKeys, anyKey, inserted}
 use Rattle.commit.specs.WalkLaws.{inserted-keeps}
-use Rattle.commit.specs.Commit.{Ready, Left, keepRow, kept, begun, tableCommitted}
+use Rattle.commit.specs.KeyLaws.{any-removed}
+use Rattle.commit.specs.Commit.{Ready, Left, keepRow, kept, spareRow, spared, begun, tableCommitted}
 
-pub keep-keeps : (w log : List ℕ) (t : ℕ) (i : TableInfo) (at : ℕ) (s : Rows) → at + i .width ≤ length w → Stand (i .width) s → Keeps (i .width) s (keepRow w log t i at s)
+-- a row that is kept unless b says that it is removed
+unless-keeps : (w : List ℕ) (i : TableInfo) (at : ℕ) (s : Rows) → at + i .width ≤ length w → Stand (i .width) s → (b : Bool) → Keeps (i .width) s (cond b s (appended (part w at (i .width)) s))
+unless-keeps w i at s h st true = (st, refl)
+unless-keeps w i at s h st false = append-keeps (part w at (i .width)) (length-part w at (i .width) h) s st
+
+keep-keeps : (w log : List ℕ) (t : ℕ) (i : TableInfo) (at : ℕ) (s : Rows) → at + i .width ≤ length w → Stand (i .width) s → Keeps (i .width) s (keepRow w log t i at s)
 unfolding keepRow
-keep-keeps w log t i at s h st = by (removed w log t (i .keys) (part w at (i .keys)))
-  where
-    by : (b : Bool) → Keeps (i .width) s (cond b s (appended (part w at (i .width)) s))
-    by true = (st, refl)
-    by false = append-keeps (part w at (i .width)) (length-part w at (i .width) h) s st
+keep-keeps w log t i at s h st = unless-keeps w i at s h st (removed w log t (i .keys) (part w at (i .keys)))
+
+pub spare-keeps : (w log gone : List ℕ) (i : TableInfo) (at : ℕ) (s : Rows) → at + i .width ≤ length w → Stand (i .width) s → Keeps (i .width) s (spareRow w log gone i at s)
+unfolding spareRow
+spare-keeps w log gone i at s h st = unless-keeps w i at s h st (anyKey log (i .keys) (part w at (i .keys)) gone)
+
+-- the rows that the removals' keys spare are those that no removal names
+pub spared-kept : (w log : List ℕ) (t : ℕ) (i : TableInfo) (n : ℕ) (s : Rows) → spared w log (removalKeys w log t) i n s ≡ kept w log t i n s
+unfolding spared kept spareRow keepRow
+spared-kept w log t i n s = iter-agree _ _ n s (λ j x l. ap (λ (b : Bool). cond b x (appended (part w (rowAt i j) (i .width)) x)) (any-removed log (i .keys) (part w (rowAt i j) (i .keys)) w t))
 
 pub kept-keeps : (w log : List ℕ) (t : ℕ) (i : TableInfo) (s : Rows) → Ready w i → Stand (i .width) s → Keeps (i .width) s (kept w log t i (i .rows) s)
 unfolding kept

@@ -1,10 +1,10 @@
 -- The log is walked record by record: which rows are removed, and which are put into a table.
-use Prim.Native.Nat.{ℕ, _+_}
+use Prim.Native.Nat.{ℕ, _+_, _*_, _^_, _<_, _≤_}
 use mathlib.Core.Bool.{Bool, false, _&&_, _||_, not, cond}
-use mathlib.Core.List.{List}
+use mathlib.Core.List.{List, [], _∷_, _++_}
 use lib.Dec.{eqb, leb}
 use lib.ListN.{length, getD}
-use Rattle.model.specs.Basics.{iter, when, eqList}
+use Rattle.model.specs.Basics.{iter, when, eqList, All}
 use Rattle.model.specs.Book.Decode.{part}
 use Rattle.tables.specs.declared.TableInfo.{TableInfo}
 use Rattle.tables.specs.Tables.{infoOf}
@@ -55,3 +55,26 @@ insertRow log t i p s = when (isInsertion log t p) (putRow i (part log (p + 2) (
 
 unfoldable pub inserted : List ℕ → List ℕ → ℕ → TableInfo → Rows → Rows
 inserted w log t i s = walked (endOf w log) (length log) (insertRow log t i) s
+
+-- ## The keys of table t's removals
+
+-- the words of the log at which they begin: asked of these, a row needs no walk of its own
+abbrev pub gatherTurn : List ℕ → ℕ → ℕ → List ℕ → List ℕ
+gatherTurn log t p ps = when (isRemoval log t p) (λ qs. qs ++ ((p + 2) ∷ [])) ps
+
+unfoldable pub removalKeys : List ℕ → List ℕ → ℕ → List ℕ
+removalKeys w log t = walked (endOf w log) (length log) (gatherTurn log t) []
+
+-- whether the k words from some of these places on are the key
+unfoldable pub anyKey : List ℕ → ℕ → List ℕ → List ℕ → Bool
+anyKey log k key [] = false
+anyKey log k key (p ∷ ps) = eqList (part log p k) key || anyKey log k key ps
+
+-- k words from each of these places on stand in the log
+abbrev pub Within : List ℕ → ℕ → List ℕ → Type 0
+Within log k ps = All (λ p. p + k ≤ length log) ps
+
+-- `gone` has room for a place of each record, since a record has two words at least; and a place fits a word
+pub record Room (log gone : List ℕ) : Type 0 where
+  pub half : length log ≤ 2 * length gone
+  pub small : length log < 2 ^ 32

@@ -1,6 +1,6 @@
 -- What the loops over the log lean on.
 use Prim.Native.Nat.{ℕ, zero, suc, _+_, _<_, _≤_}
-use mathlib.Core.Path.{_≡_, refl, sym, ap, _∙_}
+use mathlib.Core.Path.{_≡_, refl, ap, _∙_}
 use mathlib.Core.Bool.{Bool, true, false, not, cond}
 use mathlib.Core.List.{List}
 use native.Mathlib.Omega.{arith}
@@ -9,7 +9,7 @@ use borrow.Author.Tests.{eqb-true, leb-true, le-leb, lt-leb}
 use lib.ListN.{length, getD}
 use Rattle.model.specs.Basics.{iter, when}
 use Rattle.model.specs.Book.Decode.{part}
-use Rattle.model.specs.Laws.Logic.{either, le-cases, and-split}
+use Rattle.model.specs.Laws.Logic.{and-split}
 use Rattle.model.specs.Laws.Iter.{iter-more, iter-keeps, iter-stop}
 use Rattle.model.specs.Laws.Bodies.{length-part}
 use Rattle.tables.specs.declared.TableInfo.{TableInfo}
@@ -69,21 +69,37 @@ module _ {A : Type 0} (end : ℕ → ℕ) (n : ℕ) (f : ℕ → A → A) (a : A
     unfolding walked
     reached-end {q} e h = ap (λ (s : Walk A). s .state) (iter-stop (pass end n f) (r .turns) n (start a) (record { at = p; state = now }) (r .is) (omega (arith, r .few, r .within)) (λ i. rw (← e, lt-leb q n h)))
 
-    -- nothing that follows changes what it has
-    pub reached-stop : ((q : ℕ) → f q now ≡ now) → now ≡ walked end n f a
-    unfolding walked
-    reached-stop stay = sym (from n (omega (arith, r .few, r .within)))
-      where
-        one : (s : Walk A) (b : Bool) → s .state ≡ now → cond b (record { at = end (s .at); state = f (s .at) (s .state) }) s .state ≡ now
-        one s true e = rw e (stay (s .at))
-        one s false e = e
+-- ## All records
 
-        from : (k : ℕ) → r .turns ≤ k → iter (pass end n f) k (start a) .state ≡ now
-        from zero h = let z : r .turns ≡ 0 = omega arith in ap (λ (j : ℕ). iter (pass end n f) j (start a) .state) (sym z) ∙ ap (λ (s : Walk A). s .state) (sym (r .is))
-        from (suc k) h =
-            either (λ l. one (iter (pass end n f) k (start a)) (leb (end (iter (pass end n f) k (start a) .at)) n) (from k (omega arith)))
-            (λ e. ap (λ (j : ℕ). iter (pass end n f) j (start a) .state) (sym e) ∙ ap (λ (s : Walk A). s .state) (sym (r .is)))
-            (le-cases {m = r .turns} {n = suc k} (omega arith))
+-- what holds at the start and is kept by each record that ends within n words
+module _ {A : Type 0} (end : ℕ → ℕ) (n : ℕ) (f : ℕ → A → A) (P : A → Type 0) (keeps : (p : ℕ) (x : A) → end p ≤ n → P x → P (f p x)) where
+  pub walked-keeps : (a : A) → P a → P (walked end n f a)
+  unfolding walked
+  walked-keeps a h = iter-keeps (λ (x : Walk A). P (x .state)) (pass end n f) n (start a) h (λ j x l k. one x k (leb (end (x .at)) n) refl)
+    where
+      one : (x : Walk A) → P (x .state) → (b : Bool) → leb (end (x .at)) n ≡ b → P (cond b (record { at = end (x .at); state = f (x .at) (x .state) }) x .state)
+      one x k false e = k
+      one x k true e = keeps (x .at) (x .state) (leb-true (end (x .at)) n e) k
+
+-- two walks over the same records, of which one always has g of what the other has
+module _ {A B : Type 0} (end : ℕ → ℕ) (n : ℕ) (f : ℕ → A → A) (h : ℕ → B → B) (g : A → B) (same : (p : ℕ) (x : A) → g (f p x) ≡ h p (g x)) where
+  abbrev along : Walk A → Walk B
+  along s = record { at = s .at; state = g (s .state) }
+
+  along-pass : (i : ℕ) (s : Walk A) → along (pass end n f i s) ≡ pass end n h i (along s)
+  along-pass i s = by (leb (end (s .at)) n)
+    where
+      by : (b : Bool) → along (cond b (record { at = end (s .at); state = f (s .at) (s .state) }) s) ≡ cond b (record { at = end (s .at); state = h (s .at) (g (s .state)) }) (along s)
+      by true = ap (λ (x : B). record { at = end (s .at); state = x }) (same (s .at) (s .state))
+      by false = refl
+
+  along-turns : (k : ℕ) (a : A) → along (iter (pass end n f) k (start a)) ≡ iter (pass end n h) k (start (g a))
+  along-turns zero a = refl
+  along-turns (suc k) a = along-pass k (iter (pass end n f) k (start a)) ∙ ap (pass end n h k) (along-turns k a)
+
+  pub walked-along : (a : A) → g (walked end n f a) ≡ walked end n h (g a)
+  unfolding walked
+  walked-along a = ap (λ (s : Walk B). s .state) (along-turns n a)
 
 -- ## What a record's row keeps
 
@@ -96,14 +112,10 @@ insert-keeps log t i p s fits st = by (isInsertion log t p) refl
     by false e = (st, refl)
 
 pub inserted-keeps : (w log : List ℕ) (t : ℕ) (s : Rows) → Stand (infoOf w t .width) s → Keeps (infoOf w t .width) s (inserted w log t (infoOf w t) s)
-unfolding inserted walked
-inserted-keeps w log t s st = iter-keeps (λ (x : Walk Rows). Keeps (infoOf w t .width) s (x .state)) (pass (endOf w log) (length log) turn) (length log) (start s) (st, refl) (λ j x l k. one x k (leb (endOf w log (x .at)) (length log)) refl)
+unfolding inserted
+inserted-keeps w log t s st = walked-keeps (endOf w log) (length log) (insertRow log t (infoOf w t)) (Keeps (infoOf w t .width) s) one s (st, refl)
   where
-    turn : ℕ → Rows → Rows
-    turn = insertRow log t (infoOf w t)
-
-    one : (x : Walk Rows) → Keeps (infoOf w t .width) s (x .state) → (b : Bool) → leb (endOf w log (x .at)) (length log) ≡ b → Keeps (infoOf w t .width) s (cond b (record { at = endOf w log (x .at); state = turn (x .at) (x .state) }) x .state)
-    one x k false e = k
-    one x k true e =
-        let m = insert-keeps log t (infoOf w t) (x .at) (x .state) (λ q. omega (arith, insertion-end w log (x .at) t q, leb-true (endOf w log (x .at)) (length log) e)) (k .0) in
+    one : (p : ℕ) (x : Rows) → endOf w log p ≤ length log → Keeps (infoOf w t .width) s x → Keeps (infoOf w t .width) s (insertRow log t (infoOf w t) p x)
+    one p x l k =
+        let m = insert-keeps log t (infoOf w t) p x (λ q. omega (arith, insertion-end w log p t q, l)) (k .0) in
         (m .0, m .1 ∙ k .1)

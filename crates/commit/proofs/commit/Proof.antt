@@ -13,21 +13,24 @@ use Rattle.commit.proofs.commit.Statement.{statement}
 use Rattle.commit.proofs.commit.Tie as tie
 
 abbrev Inv-loop : tie.InvT-loop
-Inv-loop words tables log rows₀ done₀ t₀ rows done t =
-    (t ≤ tables) × (length rows ≡ length rows₀) × (done .used ≤ length rows₀)
+Inv-loop words tables log rows₀ done₀ gone₀ t₀ rows done gone t =
+    (t ≤ tables) × (length gone ≡ 8192) × (length rows ≡ length rows₀) × (done .used ≤ length rows₀)
     × (_≡_ {A = Left} (record { words = rows; result = done }) (iter (tableCommitted words log) t (record { words = rows₀; result = record { counts = replicate 16 0; used = 0; over = false } })))
 
 abbrev μ-loop : tie.MeasureT-loop
-μ-loop words tables log rows₀ done₀ t₀ rows done t = tables - t
+μ-loop words tables log rows₀ done₀ gone₀ t₀ rows done gone t = tables - t
 
 loop-holds : tie.Need-loop-holds Inv-loop μ-loop
-loop-holds c = (search needs, refl, omega arith, refl)
+loop-holds c = (search needs, search needs, refl, omega arith, refl)
+
+slice-aggregate-commit-table : tie.Need-slice-aggregate-commit-table Inv-loop μ-loop
+slice-aggregate-commit-table c = search needs
 
 commit-table-requires : tie.Need-commit-table-requires Inv-loop μ-loop
 commit-table-requires c κs =
-    let l = c .before .before .loop in
-    let pre = c .before .before .before .before .before .before .pre in
-    (omega arith, pre .2 (l .t) (c .before .loop-test .taken), omega (arith, l .inv .1, l .inv .2), omega (arith, pre .1, l .inv .1))
+    let l = c .before .before .before .loop in
+    let pre = c .before .before .before .before .before .before .before .pre in
+    (omega arith, pre .3 (l .t) (c .before .before .loop-test .taken), record { half = omega (arith, l .inv .1, pre .1); small = omega (arith, pre .1) }, omega (arith, l .inv .2, l .inv .3), omega (arith, pre .2, l .inv .2))
 
 add-t : tie.Need-add-t Inv-loop μ-loop
 add-t c = search needs
@@ -37,15 +40,15 @@ loop-less c = search needs
 
 loop-again : tie.Need-loop-again Inv-loop μ-loop
 loop-again c =
-    let a = c .before .before .before .before .before .before .before .before .before .args in
-    let l = c .before .before .before .before .before .loop in
-    let pre = c .before .before .before .before .before .before .before .before .before .pre in
-    let r = c .before .before .commit-table .ensures in
-    let f = table-fits (now (a .words)) (now (a .log)) (l .t) (record { words = l .rows; result = l .done }) (pre .2 (l .t) (c .before .before .before .before .loop-test .taken)) (omega (arith, l .inv .1, l .inv .2)) in (
+    let a = c .before .before .before .before .before .before .before .before .before .before .before .args in
+    let l = c .before .before .before .before .before .before .before .loop in
+    let r = c .before .before .before .commit-table .ensures in
+    let f = table-fits (now (a .words)) (now (a .log)) (l .t) (record { words = l .rows; result = l .done }) (c .before .before .before .before .before .before .before .before .before .before .before .pre .3 (l .t) (c .before .before .before .before .before .before .loop-test .taken)) (omega (arith, l .inv .2, l .inv .3)) in (
       search needs,
-      ap (λ (x : Left). length (x .words)) r ∙ f .0 ∙ l .inv .1,
-      omega (arith, ap (λ (x : Left). x .result .used) r, f .1, l .inv .1),
-      iter-more (tableCommitted (now (a .words)) (now (a .log))) (l .t) (record { words = now (a .rows); result = record { counts = replicate 16 0; used = 0; over = false } }) (record { words = l .rows; result = l .done }) _ (l .inv .3) r,
+      search needs,
+      ap (λ (x : Left). length (x .words)) r ∙ f .0 ∙ l .inv .2,
+      omega (arith, ap (λ (x : Left). x .result .used) r, f .1, l .inv .2),
+      iter-more (tableCommitted (now (a .words)) (now (a .log))) (l .t) (record { words = now (a .rows); result = record { counts = replicate 16 0; used = 0; over = false } }) (record { words = l .rows; result = l .done }) _ (l .inv .4) r,
     )
 
 same-length : tie.Need-same-length Inv-loop μ-loop
@@ -56,7 +59,7 @@ unfolding committedRows
 returns c =
     let l = c .before .loop in
     let e : l .t ≡ c .before .before .before .before .before .args .tables = omega arith in
-    rw e at (l .inv .3)
+    rw e at (l .inv .4)
 
 pub commit-spec : {M : Type 1} → statement M
 commit-spec =
@@ -65,6 +68,7 @@ commit-spec =
     Inv-loop
     μ-loop
     loop-holds
+    slice-aggregate-commit-table
     commit-table-requires
     add-t
     loop-less

@@ -13,16 +13,16 @@ use Rattle.commit.proofs.commit_table.Statement.{statement}
 use Rattle.commit.proofs.commit_table.Tie as tie
 
 -- what `keep` and `insert_all` leave, by the table's info
-old-is : (c : tie.After-keep) → _≡_ {A = Rows} (record { words = c .keep .last .1 .1 .1 .1 .0; part = c .keep .result }) (kept (now (c .before .before .before .before .before .before .args .words)) (now (c .before .before .before .before .before .before .args .log)) (c .before .before .before .before .before .before .args .t) (infoOf (now (c .before .before .before .before .before .before .args .words)) (c .before .before .before .before .before .before .args .t)) (infoOf (now (c .before .before .before .before .before .before .args .words)) (c .before .before .before .before .before .before .args .t) .rows) (begun (record { words = now (c .before .before .before .before .before .before .args .rows); result = c .before .before .before .before .before .before .args .t5 })))
+old-is : (c : tie.After-keep) → _≡_ {A = Rows} (record { words = c .keep .last .1 .1 .1 .1 .1 .0; part = c .keep .result }) (kept (now (c .before .before .before .before .before .before .before .before .args .words)) (now (c .before .before .before .before .before .before .before .before .args .log)) (c .before .before .before .before .before .before .before .before .args .t) (infoOf (now (c .before .before .before .before .before .before .before .before .args .words)) (c .before .before .before .before .before .before .before .before .args .t)) (infoOf (now (c .before .before .before .before .before .before .before .before .args .words)) (c .before .before .before .before .before .before .before .before .args .t) .rows) (begun (record { words = now (c .before .before .before .before .before .before .before .before .args .rows); result = c .before .before .before .before .before .before .before .before .args .t6 })))
 old-is c =
-    let a = c .before .before .before .before .before .before .args in
-    c .keep .ensures ∙ ap (λ (i : TableInfo). kept (now (a .words)) (now (a .log)) (a .t) i (i .rows) (begun (record { words = now (a .rows); result = a .t5 }))) (c .before .before .info-of .ensures)
+    let a = c .before .before .before .before .before .before .before .before .args in
+    c .keep .ensures ∙ ap (λ (i : TableInfo). kept (now (a .words)) (now (a .log)) (a .t) i (i .rows) (begun (record { words = now (a .rows); result = a .t6 }))) (c .before .before .before .info-of .ensures)
 
-all-is : (c : tie.After-insert-all) → _≡_ {A = Rows} (record { words = c .insert-all .last .1 .1 .1 .1 .0; part = c .insert-all .result }) (inserted (now (c .before .before .before .before .before .before .before .before .before .before .args .words)) (now (c .before .before .before .before .before .before .before .before .before .before .args .log)) (c .before .before .before .before .before .before .before .before .before .before .args .t) (infoOf (now (c .before .before .before .before .before .before .before .before .before .before .args .words)) (c .before .before .before .before .before .before .before .before .before .before .args .t)) (kept (now (c .before .before .before .before .before .before .before .before .before .before .args .words)) (now (c .before .before .before .before .before .before .before .before .before .before .args .log)) (c .before .before .before .before .before .before .before .before .before .before .args .t) (infoOf (now (c .before .before .before .before .before .before .before .before .before .before .args .words)) (c .before .before .before .before .before .before .before .before .before .before .args .t)) (infoOf (now (c .before .before .before .before .before .before .before .before .before .before .args .words)) (c .before .before .before .before .before .before .before .before .before .before .args .t) .rows) (begun (record { words = now (c .before .before .before .before .before .before .before .before .before .before .args .rows); result = c .before .before .before .before .before .before .before .before .before .before .args .t5 }))))
+all-is : (c : tie.After-insert-all) → _≡_ {A = Rows} (record { words = c .insert-all .last .1 .1 .1 .1 .0; part = c .insert-all .result }) (inserted (now (c .before .before .before .before .before .before .before .before .before .before .before .before .before .before .args .words)) (now (c .before .before .before .before .before .before .before .before .before .before .before .before .before .before .args .log)) (c .before .before .before .before .before .before .before .before .before .before .before .before .before .before .args .t) (infoOf (now (c .before .before .before .before .before .before .before .before .before .before .before .before .before .before .args .words)) (c .before .before .before .before .before .before .before .before .before .before .before .before .before .before .args .t)) (kept (now (c .before .before .before .before .before .before .before .before .before .before .before .before .before .before .args .words)) (now (c .before .before .before .before .before .before .before .before .before .before .before .before .before .before .args .log)) (c .before .before .before .before .before .before .before .before .before .before .before .before .before .before .args .t) (infoOf (now (c .before .before .before .before .before .before .before .before .before .before .before .before .before .before .args .words)) (c .before .before .before .before .before .before .before .before .before .before .before .before .before .before .args .t)) (infoOf (now (c .before .before .before .before .before .before .before .before .before .before .before .before .before .before .args .words)) (c .before .before .before .before .before .before .before .before .before .before .before .before .before .before .args .t) .rows) (begun (record { words = now (c .before .before .before .before .before .before .before .before .before .before .before .before .before .before .args .rows); result = c .before .before .before .before .before .before .before .before .before .before .before .before .before .before .args .t6 }))))
 all-is c =
-    let a = c .before .before .before .before .before .before .before .before .before .before .args in
-    let o = c .before .before .before .before .keep in
-    c .insert-all .ensures ∙ ap (λ (i : TableInfo). inserted (now (a .words)) (now (a .log)) (a .t) i (record { words = o .last .1 .1 .1 .1 .0; part = o .result })) (c .before .before .before .before .before .before .info-of .ensures) ∙ ap (inserted (now (a .words)) (now (a .log)) (a .t) (infoOf (now (a .words)) (a .t))) (old-is (c .before .before .before .before))
+    let a = c .before .before .before .before .before .before .before .before .before .before .before .before .before .before .args in
+    let o = c .before .before .before .before .before .before .keep in
+    c .insert-all .ensures ∙ ap (λ (i : TableInfo). inserted (now (a .words)) (now (a .log)) (a .t) i (record { words = o .last .1 .1 .1 .1 .1 .0; part = o .result })) (c .before .before .before .before .before .before .before .before .before .info-of .ensures) ∙ ap (inserted (now (a .words)) (now (a .log)) (a .t) (infoOf (now (a .words)) (a .t))) (old-is (c .before .before .before .before .before .before))
 
 cast-done : tie.Need-cast-done
 cast-done c = search needs
@@ -32,27 +32,27 @@ info-of-requires c κs = search needs
 
 keep-requires : tie.Need-keep-requires
 keep-requires c κs =
-    let a = c .before .before .before .before .before .args in
-    let pre = c .before .before .before .before .before .pre in
-    let e = c .before .info-of .ensures in
-    (e, subst (Ready (now (a .words))) (sym e) (pre .1), record { used = omega arith; within = pre .2 })
+    let a = c .before .before .before .before .before .before .before .args in
+    let pre = c .before .before .before .before .before .before .before .pre in
+    let e = c .before .before .info-of .ensures in
+    (e, subst (Ready (now (a .words))) (sym e) (pre .1), pre .2, record { used = omega arith; within = pre .3 })
 
 insert-all-requires : tie.Need-insert-all-requires
 insert-all-requires c κs =
-    let a = c .before .before .before .before .before .before .before .before .before .args in
-    let pre = c .before .before .before .before .before .before .before .before .before .pre in
-    let e = c .before .before .before .before .before .info-of .ensures in (
+    let a = c .before .before .before .before .before .before .before .before .before .before .before .before .before .args in
+    let pre = c .before .before .before .before .before .before .before .before .before .before .before .before .before .pre in
+    let e = c .before .before .before .before .before .before .before .before .info-of .ensures in (
       e,
       subst Sound (sym e) (ready-sound (pre .1)),
-      subst (λ (i : TableInfo). Stand (i .width) (record { words = c .before .before .before .keep .last .1 .1 .1 .1 .0; part = c .before .before .before .keep .result })) (sym e) (subst (Stand ((infoOf (now (a .words)) (a .t)) .width)) (sym (old-is (c .before .before .before))) (old-keeps (now (a .words)) (now (a .log)) (a .t) (record { words = now (a .rows); result = a .t5 }) (pre .1) (pre .2) .0)),
+      subst (λ (i : TableInfo). Stand (i .width) (record { words = c .before .before .before .before .before .keep .last .1 .1 .1 .1 .1 .0; part = c .before .before .before .before .before .keep .result })) (sym e) (subst (Stand ((infoOf (now (a .words)) (a .t)) .width)) (sym (old-is (c .before .before .before .before .before))) (old-keeps (now (a .words)) (now (a .log)) (a .t) (record { words = now (a .rows); result = a .t6 }) (pre .1) (pre .3) .0)),
     )
 
 cast-done-2 : tie.Need-cast-done-2
 cast-done-2 c =
-    let a = c .before .before .before .before .before .before .before .before .before .before .before .before .before .args in
-    let pre = c .before .before .before .before .before .before .before .before .before .before .before .before .before .pre in
-    let k = table-keeps (now (a .words)) (now (a .log)) (a .t) (record { words = now (a .rows); result = a .t5 }) (pre .1) (pre .2) in
-    omega (arith, few-rows (pre .1 .some) (k .0), k .1, ap (λ (s : Rows). s .part .count) (all-is (c .before .before .before)), pre .3)
+    let a = c .before .before .before .before .before .before .before .before .before .before .before .before .before .before .before .before .before .args in
+    let pre = c .before .before .before .before .before .before .before .before .before .before .before .before .before .before .before .before .before .pre in
+    let k = table-keeps (now (a .words)) (now (a .log)) (a .t) (record { words = now (a .rows); result = a .t6 }) (pre .1) (pre .3) in
+    omega (arith, few-rows (pre .1 .some) (k .0), k .1, ap (λ (s : Rows). s .part .count) (all-is (c .before .before .before)), pre .4)
 
 mul-done : tie.Need-mul-done
 mul-done c = search needs
@@ -63,11 +63,14 @@ element-write-done c = search needs
 same-length : tie.Need-same-length
 same-length c = search needs
 
+same-length-2 : tie.Need-same-length-2
+same-length-2 c = search needs
+
 returns : tie.Need-returns
 unfolding tableCommitted
 returns c =
-    let a = c .before .before .before .before .before .before .before .before .before .before .before .before .before .args in
-    ap (ended (a .t) (record { words = now (a .rows); result = a .t5 })) (all-is (c .before .before .before))
+    let a = c .before .before .before .before .before .before .before .before .before .before .before .before .before .before .before .before .before .args in
+    ap (ended (a .t) (record { words = now (a .rows); result = a .t6 })) (all-is (c .before .before .before))
 
 pub commit-table-spec : {M : Type 1} → statement M
 commit-table-spec =
@@ -81,4 +84,5 @@ commit-table-spec =
     mul-done
     element-write-done
     same-length
+    same-length-2
     returns)

@@ -1,83 +1,57 @@
-use Prim.Native.Nat.{ℕ, _≤_, _-_}
-use mathlib.Core.Path.{_≡_, refl, sym, ap, _∙_, subst}
+use Prim.Native.Nat.{ℕ}
+use mathlib.Core.Path.{sym, ap, _∙_, subst}
+use mathlib.Core.List.{List}
 use native.Mathlib.Omega.{arith}
+use lib.Seq.{length-take-le}
 use denote.Ref.{now}
-use lib.ListN.{length}
-use Rattle.model.specs.Laws.Iter.{iter-more}
-use Rattle.tables.specs.Tables.{rowAt}
-use Rattle.tables.specs.TablesLaws.{next-row, row-within}
-use Rattle.commit.specs.Rows.{Rows, Stand}
-use Rattle.commit.specs.Commit.{keepRow, kept}
-use Rattle.commit.specs.TableLaws.{keep-keeps}
+use Rattle.tables.specs.declared.TableInfo.{TableInfo}
+use Rattle.commit.specs.Rows.{Rows}
+use Rattle.commit.specs.Walk.{removalKeys, Within}
+use Rattle.commit.specs.KeyLaws.{keys-within}
+use Rattle.commit.specs.Commit.{spared}
+use Rattle.commit.specs.TableLaws.{spared-kept}
 use borrow.Author.Needs.{needs}
 use Rattle.commit.proofs.keep.Statement.{statement}
 use Rattle.commit.proofs.keep.Tie as tie
 
-abbrev Inv-loop : tie.InvT-loop
-Inv-loop words log t info rows₀ n width at₀ part₀ i₀ rows at part i =
-    (i ≤ n) × (at ≡ rowAt info i) × (length rows ≡ length rows₀) × Stand (info .width) (record { words = rows; part = part })
-    × (_≡_ {A = Rows} (record { words = rows; part = part }) (kept words log (t .0) info i (record { words = rows₀; part = part₀ })))
+removals-requires : tie.Need-removals-requires
+removals-requires c κs = search needs
 
-abbrev μ-loop : tie.MeasureT-loop
-μ-loop words log t info rows₀ n width at₀ part₀ i₀ rows at part i = n - i
+slice-reshare-prefix-keep-rows : tie.Need-slice-reshare-prefix-keep-rows
+slice-reshare-prefix-keep-rows c = search needs
 
-loop-holds : tie.Need-loop-holds Inv-loop μ-loop
-unfolding kept
-loop-holds c = (search needs, omega arith, refl, c .before .before .before .pre .2, refl)
+slice-aggregate-keep-rows : tie.Need-slice-aggregate-keep-rows
+slice-aggregate-keep-rows c =
+    let r = c .before .before .before .removals in
+    sym (length-take-le (r .result) (r .last .1 .1 .1 .0) (omega (arith, r .ensures .0, r .kept .1 .1 .1 .0)))
 
-keep-row-requires : tie.Need-keep-row-requires Inv-loop μ-loop
-keep-row-requires c κs =
-    let a = c .before .before .before .before .before .before .args in
-    let l = c .before .before .loop in
-    let pre = c .before .before .before .before .before .before .pre in
-    (pre .0, pre .1, omega (arith, row-within (l .i) (a .info .rows) (a .info .width) (c .before .loop-test .taken), pre .1 .stands .rows), l .inv .3)
+keep-rows-requires : tie.Need-keep-rows-requires
+keep-rows-requires c κs =
+    let a = c .before .before .before .before .before .before .before .before .before .before .args in
+    let pre = c .before .before .before .before .before .before .before .before .before .before .pre in
+    let e = sym (c .before .before .before .before .removals .ensures .1) in
+    (pre .1, subst (Within (now (a .log)) (a .info .keys)) e (subst (λ (i : TableInfo). Within (now (a .log)) (i .keys) (removalKeys (now (a .words)) (now (a .log)) (a .t .0))) (sym (pre .0)) (keys-within (now (a .words)) (now (a .log)) (a .t .0))), pre .3)
 
-add-at : tie.Need-add-at Inv-loop μ-loop
-add-at c =
-    let a = c .before .before .before .before .before .before .before .before .before .args in
-    let l = c .before .before .before .before .before .loop in
-    omega (arith, row-within (l .i) (a .info .rows) (a .info .width) (c .before .before .before .before .loop-test .taken), c .before .before .before .before .before .before .before .before .before .pre .1 .stands .rows, c .before .before .before .before .before .before .before .before .before .good)
-
-add-i : tie.Need-add-i Inv-loop μ-loop
-add-i c = search needs
-
-loop-less : tie.Need-loop-less Inv-loop μ-loop
-loop-less c = search needs
-
-loop-again : tie.Need-loop-again Inv-loop μ-loop
-unfolding kept
-loop-again c =
-    let a = c .before .before .before .before .before .before .before .before .before .args in
-    let l = c .before .before .before .before .before .loop in
-    let r = c .before .before .keep-row .ensures in
-    let k = keep-keeps (now (a .words)) (now (a .log)) (a .t .0) (a .info) (l .at) (record { words = l .rows; part = l .part }) (omega (arith, row-within (l .i) (a .info .rows) (a .info .width) (c .before .before .before .before .loop-test .taken), c .before .before .before .before .before .before .before .before .before .pre .1 .stands .rows)) (l .inv .3) in (
-      search needs,
-      omega (arith, next-row (l .i) (a .info .width)),
-      ap (λ (s : Rows). length (s .words)) r ∙ k .1 ∙ l .inv .2,
-      subst (Stand (a .info .width)) (sym r) (k .0),
-      iter-more (λ j. keepRow (now (a .words)) (now (a .log)) (a .t .0) (a .info) (rowAt (a .info) j)) (l .i) (record { words = now (a .rows); part = a .start }) (record { words = l .rows; part = l .part }) _ (l .inv .4) (r ∙ ap (λ (p : ℕ). keepRow (now (a .words)) (now (a .log)) (a .t .0) (a .info) p (record { words = l .rows; part = l .part })) (l .inv .1)),
-    )
-
-same-length : tie.Need-same-length Inv-loop μ-loop
+same-length : tie.Need-same-length
 same-length c = search needs
 
-returns : tie.Need-returns Inv-loop μ-loop
+same-length-2 : tie.Need-same-length-2
+same-length-2 c = search needs
+
+returns : tie.Need-returns
 returns c =
-    let l = c .before .loop in
-    let e : l .i ≡ c .before .before .before .before .before .args .info .rows = omega arith in
-    rw e at (l .inv .4)
+    let a = c .before .before .before .before .before .before .before .before .before .before .before .before .before .args in
+    let s : Rows = record { words = now (a .rows); part = a .start } in
+    c .before .before .keep-rows .ensures ∙ ap (λ (gone : List ℕ). spared (now (a .words)) (now (a .log)) gone (a .info) (a .info .rows) s) (c .before .before .before .before .before .before .before .removals .ensures .1) ∙ spared-kept (now (a .words)) (now (a .log)) (a .t .0) (a .info) (a .info .rows) s
 
 pub keep-spec : {M : Type 1} → statement M
 keep-spec =
     tie.close
     (tie.spec
-    Inv-loop
-    μ-loop
-    loop-holds
-    keep-row-requires
-    add-at
-    add-i
-    loop-less
-    loop-again
+    removals-requires
+    slice-reshare-prefix-keep-rows
+    slice-aggregate-keep-rows
+    keep-rows-requires
     same-length
+    same-length-2
     returns)

@@ -4,10 +4,9 @@ use native.Mathlib.Nat.{add-sub-cancel-left}
 use lib.ListN.{getD, take, drop, replicate}
 use denote.Ref.{now}
 use Rattle.words.specs.Filled.{filled}
-use Rattle.tables.specs.declared.TableInfo.{TableInfo}
 use Rattle.commit.specs.Rows.{appended}
 use Rattle.commit.specs.RowLaws.{few-rows, key-part}
-use Rattle.commit.specs.Commit.{keepRow}
+use Rattle.commit.specs.Commit.{spareRow}
 use borrow.Author.Needs.{needs}
 use Rattle.commit.proofs.keep_row.Statement.{statement}
 use Rattle.commit.proofs.keep_row.Tie as tie
@@ -30,28 +29,28 @@ part-row-end c = search needs
 key-of-requires : tie.Need-key-of-requires
 key-of-requires c κs = search needs
 
-removed-requires : tie.Need-removed-requires
-removed-requires c κs = (search needs, ap (λ (i : TableInfo). i .keys) (c .before .before .before .before .before .before .pre .0))
+any-key-requires : tie.Need-any-key-requires
+any-key-requires c κs = (c .before .before .before .before .before .before .before .pre .0 .stands .few, c .before .before .before .before .before .before .before .pre .1)
 
 returns : tie.Need-returns
-unfolding keepRow
+unfolding spareRow
 returns c =
-    let a = c .before .before .before .before .before .before .before .before .args in
-    let e = key-part (now (a .words)) (a .at) (a .info .width) (a .info .keys) (c .before .before .before .key-of .result) (c .before .before .before .key-of .ensures ∙ ap (λ (n : ℕ). filled (λ i. getD (take n (drop (a .at) (now (a .words)))) i 0) (a .info .keys) (replicate 16 0)) (add-sub-cancel-left (a .at) (a .info .width))) (c .before .before .before .before .before .before .before .before .pre .1 .stands .keys) (c .before .before .before .before .before .before .before .before .pre .2) (c .before .before .before .before .before .before .before .before .pre .1 .stands .few) in
-    rw (← e, ← c .before .removed .ensures, c .if1 .taken)
+    let a = c .before .before .before .before .before .before .before .before .before .args in
+    let e = key-part (now (a .words)) (a .at) (a .info .width) (a .info .keys) (c .before .before .before .key-of .result) (c .before .before .before .key-of .ensures ∙ ap (λ (n : ℕ). filled (λ i. getD (take n (drop (a .at) (now (a .words)))) i 0) (a .info .keys) (replicate 16 0)) (add-sub-cancel-left (a .at) (a .info .width))) (c .before .before .before .before .before .before .before .before .before .pre .0 .stands .keys) (c .before .before .before .before .before .before .before .before .before .pre .2) (c .before .before .before .before .before .before .before .before .before .pre .0 .stands .few) in
+    rw (← e, ← c .before .any-key .ensures, c .if1 .taken)
 
 append-requires : tie.Need-append-requires
-append-requires c κs = (c .before .before .before .before .before .before .before .before .before .pre .3 .within, few-rows (c .before .before .before .before .before .before .before .before .before .pre .1 .some) (c .before .before .before .before .before .before .before .before .before .pre .3))
+append-requires c κs = (c .before .before .before .before .before .before .before .before .before .before .pre .3 .within, few-rows (c .before .before .before .before .before .before .before .before .before .before .pre .0 .some) (c .before .before .before .before .before .before .before .before .before .before .pre .3))
 
 same-length : tie.Need-same-length
 same-length c = search needs
 
 returns-2 : tie.Need-returns-2
-unfolding keepRow
+unfolding spareRow
 returns-2 c =
-    let a = c .before .before .before .before .before .before .before .before .before .before .before .before .args in
-    let e = key-part (now (a .words)) (a .at) (a .info .width) (a .info .keys) (c .before .before .before .before .before .before .before .key-of .result) (c .before .before .before .before .before .before .before .key-of .ensures ∙ ap (λ (n : ℕ). filled (λ i. getD (take n (drop (a .at) (now (a .words)))) i 0) (a .info .keys) (replicate 16 0)) (add-sub-cancel-left (a .at) (a .info .width))) (c .before .before .before .before .before .before .before .before .before .before .before .before .pre .1 .stands .keys) (c .before .before .before .before .before .before .before .before .before .before .before .before .pre .2) (c .before .before .before .before .before .before .before .before .before .before .before .before .pre .1 .stands .few) in
-    rw (← e, ← c .before .before .before .before .before .removed .ensures, c .before .before .before .before .if1 .left) (c .before .before .append .ensures ∙ ap (λ (n : ℕ). appended (take n (drop (a .at) (now (a .words)))) (record { words = now (a .rows); part = a .part })) (add-sub-cancel-left (a .at) (a .info .width)))
+    let a = c .before .before .before .before .before .before .before .before .before .before .before .before .before .args in
+    let e = key-part (now (a .words)) (a .at) (a .info .width) (a .info .keys) (c .before .before .before .before .before .before .before .key-of .result) (c .before .before .before .before .before .before .before .key-of .ensures ∙ ap (λ (n : ℕ). filled (λ i. getD (take n (drop (a .at) (now (a .words)))) i 0) (a .info .keys) (replicate 16 0)) (add-sub-cancel-left (a .at) (a .info .width))) (c .before .before .before .before .before .before .before .before .before .before .before .before .before .pre .0 .stands .keys) (c .before .before .before .before .before .before .before .before .before .before .before .before .before .pre .2) (c .before .before .before .before .before .before .before .before .before .before .before .before .before .pre .0 .stands .few) in
+    rw (← e, ← c .before .before .before .before .before .any-key .ensures, c .before .before .before .before .if1 .left) (c .before .before .append .ensures ∙ ap (λ (n : ℕ). appended (take n (drop (a .at) (now (a .words)))) (record { words = now (a .rows); part = a .part })) (add-sub-cancel-left (a .at) (a .info .width)))
 
 pub keep-row-spec : {M : Type 1} → statement M
 keep-row-spec =
@@ -63,7 +62,7 @@ keep-row-spec =
     part-row-start
     part-row-end
     key-of-requires
-    removed-requires
+    any-key-requires
     returns
     append-requires
     same-length

@@ -13,7 +13,10 @@ slice-aggregate-commit : tie.Need-slice-aggregate-commit
 slice-aggregate-commit c = sym (length-take-le (c .before .before .before .before .before .before .args .p .state .used) (now (c .before .before .before .before .before .before .args .log)) (c .before .before .before .before .before .before .pre .3 .used))
 
 commit-requires : tie.Need-commit-requires
-commit-requires c κs = (omega (arith, c .before .before .before .before .before .before .before .pre .1, few-tables (now (c .before .before .before .before .before .before .before .args .words)) (c .before .before .before .before .before .before .before .pre .0)), omega (arith, c .before .before .before .before .before .before .before .pre .2), λ t l. ready-table (now (c .before .before .before .before .before .before .before .args .words)) (c .before .before .before .before .before .before .before .pre .0 .contents) (c .before .before .before .before .before .before .before .pre .0 .bodies) t (omega (arith, c .before .before .before .before .before .before .before .pre .1)))
+commit-requires c κs =
+    let a = c .before .before .before .before .before .before .before .args in
+    let pre = c .before .before .before .before .before .before .before .pre in
+    (omega (arith, pre .1, few-tables (now (a .words)) (pre .0)), omega (arith, length-take-le (a .p .state .used) (now (a .log)) (pre .3 .used), pre .3 .short, pre .3 .used), omega (arith, pre .2), λ t l. ready-table (now (a .words)) (pre .0 .contents) (pre .0 .bodies) t (omega (arith, pre .1)))
 
 same-length : tie.Need-same-length
 same-length c = search needs
