@@ -20,7 +20,9 @@ ghost use Rattle.functions.specs.Answers.{answerOf};
 ghost use Rattle.bindings.specs.Columns.{wordOf};
 ghost use Rattle.instr.specs.Meaning.{entryOf};
 ghost use Rattle.instr.specs.Stands.{Short};
-ghost use Rattle.lanes.specs.Lanes.{listed, Begins, columnOf, asked, AskFits, holds, TestFits, isSome, orElse, answeredLanes, answeredWords, kept};
+ghost use Rattle.tables.specs.Tables.{Stands, foundRow};
+ghost use Rattle.lanes.specs.declared.Ask.the-variants.{Lookup};
+ghost use Rattle.lanes.specs.Lanes.{listed, Begins, columnOf, asked, AskFits, IndexOf, IndexFor, holds, TestFits, isSome, orElse, answeredLanes, answeredWords, kept};
 
 // What a lane asks for: a column of the committed row with a key, what a function answers, or what an entry stands for.
 pub enum Ask {
@@ -72,16 +74,27 @@ fn column(words: &[u32], row: Found, col: ColumnId) -> Answer
     }
 }
 
+// The committed row with the key, by the table's index; an empty index is none, and all rows are looked at.
+fn find(words: &[u32], index: &[u32], table: TableInfo, key: &[u32; 16]) -> Found
+    requires { ⌜ Stands (now words) table × IndexOf (now words) table (now index) ⌝ }
+    ensures { λ r. ⌜ r ≡ foundRow (now (words .entry)) table (now (key .entry)) ⌝ }
+{
+    if index.len() == 0 {
+        return tables::find(words, table, key);
+    }
+    hash_index::find(words, index, table, key)
+}
+
 // What a lane is answered.
-fn answer(words: &[u32], bindings: &[u32], ask: Ask, lane: Lane) -> Answer
-    requires { ⌜ AskFits (now words) ask ⌝ }
+fn answer(words: &[u32], bindings: &[u32], index: &[u32], ask: Ask, lane: Lane) -> Answer
+    requires { ⌜ AskFits (now words) ask × IndexFor (now words) ask (now index) ⌝ }
     ensures { λ r. ⌜ answerOf r ≡ asked (now (words .entry)) (now (bindings .entry)) ask (lane .0) ⌝ }
 {
     match ask {
         Ask::Lookup { table, key, col } => {
             let args = fetch(words, bindings, key, lane);
             let vals = args.vals;
-            column(words, tables::find(words, table, &vals), col)
+            column(words, find(words, index, table, &vals), col)
         }
         Ask::External { func, args } => functions::invoke(func, fetch(words, bindings, args, lane)),
         Ask::Entry(e) => Answer::Word(value(bindings, e, lane)),
@@ -89,12 +102,19 @@ fn answer(words: &[u32], bindings: &[u32], ask: Ask, lane: Lane) -> Answer
 }
 
 // What a lane is answered; a lane that is not live is not asked.
-fn answer_live(words: &[u32], bindings: &[u32], ask: Ask, live: bool, lane: Lane) -> Answer
-    requires { ⌜ AskFits (now words) ask ⌝ }
+fn answer_live(
+    words: &[u32],
+    bindings: &[u32],
+    index: &[u32],
+    ask: Ask,
+    live: bool,
+    lane: Lane,
+) -> Answer
+    requires { ⌜ AskFits (now words) ask × IndexFor (now words) ask (now index) ⌝ }
     ensures { λ r. ⌜ answerOf r ≡ only live (asked (now (words .entry)) (now (bindings .entry)) ask (lane .0)) ⌝ }
 {
     if live {
-        return answer(words, bindings, ask, lane);
+        return answer(words, bindings, index, ask, lane);
     }
     Answer::Nothing
 }
@@ -118,20 +138,99 @@ fn word_or(a: Answer, other: u32) -> u32
 }
 
 // Each lane of the mask that is answered has its word in `out`; the lanes that were.
-pub fn fill(words: &[u32], bindings: &[u32], ask: Ask, mask: Mask, out: &mut [u32]) -> Mask
-    requires { ⌜ AskFits (now words) ask × (length (now out) ≡ 256) ⌝ }
+fn fill_by(
+    words: &[u32],
+    bindings: &[u32],
+    index: &[u32],
+    ask: Ask,
+    mask: Mask,
+    out: &mut [u32],
+) -> Mask
+    requires { ⌜ AskFits (now words) ask × IndexFor (now words) ask (now index) × (length (now out) ≡ 256) ⌝ }
     ensures lanes { λ r. ⌜ r .live ≡ answeredLanes (asked (now (words .entry)) (now (bindings .entry)) ask) (mask .live) ⌝ }
     ensures words { λ r. ⌜ now (out .exit) ≡ answeredWords (asked (now (words .entry)) (now (bindings .entry)) ask) (mask .live) (now (out .entry)) ⌝ }
 {
     let mut found = Mask::new(0);
     let mut i = 0;
     while i < 256 {
-        let given = answer_live(words, bindings, ask, mask.live[i], Lane(i));
+        let given = answer_live(words, bindings, index, ask, mask.live[i], Lane(i));
         out[i] = word_or(given, out[i]);
         found.live[i] = is_word(given);
         i += 1;
     }
     found
+}
+
+// The same of a lookup, by an index that is made for it.
+fn fill_indexed(
+    words: &[u32],
+    bindings: &[u32],
+    table: TableInfo,
+    key: Entries,
+    col: ColumnId,
+    mask: Mask,
+    out: &mut [u32],
+) -> Mask
+    requires { ⌜ Stands (now words) table × Short key × (table .rows ≤ 16384) × (length (now out) ≡ 256) ⌝ }
+    ensures lanes { λ r. ⌜ r .live ≡ answeredLanes (asked (now (words .entry)) (now (bindings .entry)) (Lookup table key col)) (mask .live) ⌝ }
+    ensures words { λ r. ⌜ now (out .exit) ≡ answeredWords (asked (now (words .entry)) (now (bindings .entry)) (Lookup table key col)) (mask .live) (now (out .entry)) ⌝ }
+{
+    let mut index = [0u32; 18432];
+    hash_index::build(words, table, &mut index);
+    fill_by(
+        words,
+        bindings,
+        &index,
+        Ask::Lookup { table, key, col },
+        mask,
+        out,
+    )
+}
+
+// Whether an index of the table is sooner made than the lanes of the mask have looked at its rows.
+fn is_worth_it(table: TableInfo, mask: Mask) -> bool
+    ensures { λ r. ⌜ (r ≡ true → table .rows ≤ 16384) ⌝ }
+{
+    if table.rows <= 64 {
+        return false;
+    }
+    if 16384 < table.rows {
+        return false;
+    }
+    8 < mask.count()
+}
+
+// The same of any lookup.
+fn fill_rows(
+    words: &[u32],
+    bindings: &[u32],
+    table: TableInfo,
+    key: Entries,
+    col: ColumnId,
+    mask: Mask,
+    out: &mut [u32],
+) -> Mask
+    requires { ⌜ Stands (now words) table × Short key × (length (now out) ≡ 256) ⌝ }
+    ensures lanes { λ r. ⌜ r .live ≡ answeredLanes (asked (now (words .entry)) (now (bindings .entry)) (Lookup table key col)) (mask .live) ⌝ }
+    ensures words { λ r. ⌜ now (out .exit) ≡ answeredWords (asked (now (words .entry)) (now (bindings .entry)) (Lookup table key col)) (mask .live) (now (out .entry)) ⌝ }
+{
+    if is_worth_it(table, mask) {
+        return fill_indexed(words, bindings, table, key, col, mask, out);
+    }
+    let ask = Ask::Lookup { table, key, col };
+    fill_by(words, bindings, &words[..0], ask, mask, out)
+}
+
+// Each lane of the mask that is answered has its word in `out`; the lanes that were.
+pub fn fill(words: &[u32], bindings: &[u32], ask: Ask, mask: Mask, out: &mut [u32]) -> Mask
+    requires { ⌜ AskFits (now words) ask × (length (now out) ≡ 256) ⌝ }
+    ensures lanes { λ r. ⌜ r .live ≡ answeredLanes (asked (now (words .entry)) (now (bindings .entry)) ask) (mask .live) ⌝ }
+    ensures words { λ r. ⌜ now (out .exit) ≡ answeredWords (asked (now (words .entry)) (now (bindings .entry)) ask) (mask .live) (now (out .entry)) ⌝ }
+{
+    match ask {
+        Ask::Lookup { table, key, col } => fill_rows(words, bindings, table, key, col, mask, out),
+        _ => fill_by(words, bindings, &words[..0], ask, mask, out),
+    }
 }
 
 fn least(a: usize, b: usize) -> usize

@@ -1,16 +1,7 @@
--- The home of a key: table and key words folded, wrapping at 32 bits, and the high 13 bits of that. Nothing but its bound is ever used of it.
-use Prim.Native.Nat.{ℕ, _+_, _*_, _/_, _%_}
-use mathlib.Core.List.{List, [], _∷_}
-
-abbrev pub spun : ℕ → ℕ
-spun h = (h * 2654435761) % 4294967296
-
-abbrev pub mixed : ℕ → ℕ → ℕ
-mixed h x = spun ((h + x) % 4294967296)
-
-unfoldable pub folded : ℕ → List ℕ → ℕ
-folded h [] = h
-folded h (x ∷ xs) = folded (mixed h x) xs
+-- The home of a key: table and key words folded, and the high 13 bits of that. Nothing but its bound is ever used of it.
+use Prim.Native.Nat.{ℕ, _/_}
+use mathlib.Core.List.{List}
+use Rattle.hash_index.specs.Fold.{spun, folded}
 
 unfoldable pub homeOf : ℕ → List ℕ → ℕ
 homeOf table key = folded (spun table) key / 524288

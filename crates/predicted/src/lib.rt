@@ -4,7 +4,7 @@ ghost use mathlib.Core.Path.{_≡_};
 ghost use Prim.Native.Nat.{_+_, _≤_, _<_};
 ghost use lib.ListN.{length, set};
 ghost use Rattle.tables.specs.Tables.{front};
-ghost use Rattle.predicted.specs.Home.{spun, mixed, homeOf};
+ghost use Rattle.predicted.specs.Home.{homeOf};
 ghost use Rattle.predicted.specs.Index.{after, answers, probed, slotOf, Small};
 
 // The place of the record that has the key; or the free slot where it belongs; or neither, after all slots.
@@ -14,29 +14,15 @@ pub enum Slot {
     Full,
 }
 
-// A product by an odd number, wrapping at 32 bits: its high bits depend on all bits of h.
-fn spin(h: u32) -> u32
-    ensures { λ r. ⌜ r ≡ spun h ⌝ }
-{
-    let product = (h as u64) * 2654435761;
-    (product % 4294967296) as u32
-}
-
-fn mix(h: u32, x: u32) -> u32
-    ensures { λ r. ⌜ r ≡ mixed h x ⌝ }
-{
-    spin(std::num::wrapping_add_u32(h, x))
-}
-
 // The slot from which a key of a table is looked for: the high 13 bits of its words, folded.
 fn home_of(table: ids::TableId, key: &[u32; 16], k: usize) -> usize
     requires { ⌜ k ≤ 16 ⌝ }
     ensures { λ r. ⌜ (r ≡ homeOf (table .0) (front (now (key .entry)) k)) × (r < 8192) ⌝ }
 {
-    let mut h = spin(table.0);
+    let mut h = hash_index::spin(table.0);
     let mut i = 0;
     while i < k {
-        h = mix(h, key[i]);
+        h = hash_index::mix(h, key[i]);
         i += 1;
     }
     words::size(h / 524288)

@@ -31,10 +31,10 @@ front-take key k h =
     (λ i l. let m : i < k = omega (arith, length-tab (λ i. getD key i 0) k) in getD-tab (λ i. getD key i 0) k i 0 m ∙ sym (getD-take k key i 0 m))
 
 module _ (w : List ℕ) (at : ℕ) (key : List ℕ) (k : ℕ) where
-  part-word : (i : ℕ) → i < k → getD (part w at k) i 0 ≡ getD w (at + i) 0
+  pub part-word : (i : ℕ) → i < k → getD (part w at k) i 0 ≡ getD w (at + i) 0
   part-word i l = getD-take k (drop at w) i 0 l ∙ getD-drop at w i 0
 
-  key-word : (i : ℕ) → i < k → getD (front key k) i 0 ≡ getD key i 0
+  pub key-word : (i : ℕ) → i < k → getD (front key k) i 0 ≡ getD key i 0
   key-word i l = getD-tab (λ i. getD key i 0) k i 0 l
 
   pub same-all : at + k ≤ length w → ((i : ℕ) → i < k → getD w (at + i) 0 ≡ getD key i 0) → sameWords w at key k ≡ true

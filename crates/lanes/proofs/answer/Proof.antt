@@ -8,19 +8,22 @@ enum-known-ask : tie.Need-enum-known-ask
 enum-known-ask c = search needs
 
 fetch-requires : tie.Need-fetch-requires
-fetch-requires c κs = (rw (c .before .ask .given .1) at (c .before .before .before .before .before .pre)) .1
+fetch-requires c κs = (rw (c .before .ask .given .1) at (c .before .before .before .before .before .before .pre .0)) .1
 
 find-requires : tie.Need-find-requires
-find-requires c κs = (rw (c .before .before .before .before .ask .given .1) at (c .before .before .before .before .before .before .before .before .pre)) .0
+find-requires c κs =
+    let ask = c .before .before .before .before .ask .given .1 in
+    let p = c .before .before .before .before .before .before .before .before .before .pre in
+    ((rw ask at (p .0)) .0, rw ask at (p .1))
 
 column-requires : tie.Need-column-requires
-column-requires c κs = begins _ _ _ _ ((rw (c .before .before .before .before .before .ask .given .1) at (c .before .before .before .before .before .before .before .before .before .pre)) .0) (c .find .ensures)
+column-requires c κs = begins _ _ _ _ ((rw (c .before .before .before .before .before .ask .given .1) at (c .before .before .before .before .before .before .before .before .before .before .pre .0)) .0) (c .find .ensures)
 
 enum-known-ask-2 : tie.Need-enum-known-ask-2
 enum-known-ask-2 c = search needs
 
 fetch-requires-2 : tie.Need-fetch-requires-2
-fetch-requires-2 c κs = rw (c .before .ask2 .given .1) at (c .before .before .before .before .before .pre)
+fetch-requires-2 c κs = rw (c .before .ask2 .given .1) at (c .before .before .before .before .before .before .pre .0)
 
 invoke-requires : tie.Need-invoke-requires
 invoke-requires c κs = search needs

@@ -2,9 +2,12 @@ use Prim.Native.Nat.{ℕ, _/_, _≤_, _-_}
 use mathlib.Core.Path.{_≡_, ap, _∙_}
 use native.Mathlib.Omega.{arith}
 use denote.Ref.{now}
+use lib.ListN.{getD}
 use Rattle.tables.specs.Tables.{front}
-use Rattle.predicted.specs.Home.{folded, homeOf}
-use Rattle.predicted.specs.HomeLaws.{folded-none, folded-more, home-below}
+use Rattle.hash_index.specs.Fold.{folded}
+use Rattle.hash_index.specs.FoldLaws.{folded-none, folded-more}
+use Rattle.predicted.specs.Home.{homeOf}
+use Rattle.predicted.specs.HomeLaws.{home-below}
 use borrow.Author.Needs.{needs}
 use Rattle.predicted.proofs.home_of.Statement.{statement}
 use Rattle.predicted.proofs.home_of.Tie as tie
@@ -19,7 +22,7 @@ spin-requires : tie.Need-spin-requires Inv-loop μ-loop
 spin-requires c κs = search needs
 
 loop-holds : tie.Need-loop-holds Inv-loop μ-loop
-loop-holds c = (search needs, folded-none (c .spin .result) (now (c .before .args .key)))
+loop-holds c = (search needs, folded-none (c .spin .result) (λ j. getD (now (c .before .args .key)) j 0))
 
 mul-mix : tie.Need-mul-mix Inv-loop μ-loop
 mul-mix c = search needs
@@ -39,7 +42,7 @@ loop-less c = search needs
 loop-again : tie.Need-loop-again Inv-loop μ-loop
 loop-again c =
     let l = c .before .before .before .loop in
-    (search needs, folded-more (c .before .before .before .before .spin .result) (now (c .before .before .before .before .before .args .key)) (l .i) (l .h) (c .mix .result) (l .inv .1) (c .mix .ensures))
+    (search needs, folded-more (c .before .before .before .before .spin .result) (λ j. getD (now (c .before .before .before .before .before .args .key)) j 0) (l .i) (l .h) (c .mix .result) (l .inv .1) (c .mix .ensures))
 
 size-requires : tie.Need-size-requires Inv-loop μ-loop
 size-requires c κs = search needs

@@ -1,8 +1,8 @@
 use mathlib.Core.Path.{ap, _∙_}
-use Rattle.predicted.specs.Home.{spun}
+use Rattle.hash_index.specs.Fold.{spun}
 use borrow.Author.Needs.{needs}
-use Rattle.predicted.proofs.mix.Statement.{statement}
-use Rattle.predicted.proofs.mix.Tie as tie
+use Rattle.hash_index.proofs.mix.Statement.{statement}
+use Rattle.hash_index.proofs.mix.Tie as tie
 
 wrapping-add-u32-requires : tie.Need-wrapping-add-u32-requires
 wrapping-add-u32-requires c κs = search needs

@@ -1,0 +1,6 @@
+pub mod Fold
+pub mod FoldLaws
+pub mod Index
+pub mod Chains
+pub mod IndexLaws
+pub mod SearchLaws

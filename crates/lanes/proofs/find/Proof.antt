@@ -1,0 +1,20 @@
+use Rattle.model.specs.Laws.Logic.{either}
+use borrow.Author.Needs.{needs}
+use Rattle.lanes.proofs.find.Statement.{statement}
+use Rattle.lanes.proofs.find.Tie as tie
+use Rattle.tables.proofs.find.Reads as find-reads′
+
+find-requires : tie.Need-find-requires
+find-requires c κs = search needs
+
+returns : tie.Need-returns
+returns c = search needs
+
+find-requires-2 : tie.Need-find-requires-2
+find-requires-2 c κs = let p = c .before .before .before .pre in either (λ e. absurd (c .if1 .left e)) (λ q. (p .0, q .0, q .1)) (p .1)
+
+returns-2 : tie.Need-returns-2
+returns-2 c = search needs
+
+pub find-spec : {M : Type 1} → statement M
+find-spec = tie.close (tie.spec find-requires returns find-requires-2 returns-2)
