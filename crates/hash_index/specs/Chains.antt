@@ -1,6 +1,6 @@
 -- The rows of one home among the first n: the first from a row on, and the last. A row is told by its number plus 1, none by 0.
 use Prim.Native.Nat.{ℕ, suc, _≤_, _<_}
-use mathlib.Core.Path.{_≡_, refl}
+use mathlib.Core.Path.{_≡_}
 use mathlib.Core.Logic.{_≢_}
 use native.Mathlib.Omega.{arith}
 use Rattle.model.specs.Laws.Logic.{either, le-cases}

@@ -1,9 +1,6 @@
-use mathlib.Core.Path.{_≡_, sym, ap, _∙_}
-use Prim.Native.Nat.{_+_}
 use native.Mathlib.Omega.{arith}
-use denote.Ref.{now}
-use lib.ListN.{length, getD, set, length-set}
-use Rattle.hash_index.specs.Index.{endOf, added}
+use lib.ListN.{length-set}
+use Rattle.hash_index.specs.Index.{added}
 use borrow.Author.Needs.{needs}
 use Rattle.hash_index.proofs.add.Statement.{statement}
 use Rattle.hash_index.proofs.add.Tie as tie
@@ -42,7 +39,7 @@ mul-index-2 : tie.Need-mul-index-2
 mul-index-2 c = search needs
 
 slice-write-index-2 : tie.Need-slice-write-index-2
-slice-write-index-2 c = omega (arith, length-set (now (c .before .before .before .before .args .index)) (1024 + c .before .before .before .before .args .h) (c .before .before .before .before .args .n + 1), c .end-of .ensures .1)
+slice-write-index-2 c = simp length-set (omega (arith, c .end-of .ensures .1))
 
 same-length : tie.Need-same-length
 same-length c = search needs

@@ -1,12 +1,12 @@
-use Prim.Native.Nat.{ℕ, _+_, _≤_, _-_}
-use mathlib.Core.Path.{_≡_, sym, ap, _∙_}
+use Prim.Native.Nat.{ℕ, _-_}
+use mathlib.Core.Path.{sym, ap, _∙_}
 use native.Mathlib.Omega.{arith}
 use denote.Ref.{now}
-use lib.ListN.{length, getD}
+use lib.ListN.{length}
 use Rattle.tables.specs.declared.Found.the-variants.{At}
-use Rattle.tables.specs.Tables.{rowAt, sameWords}
+use Rattle.tables.specs.Tables.{sameWords}
 use Rattle.tables.specs.TablesLaws.{row-within, found-at, found-nothing}
-use Rattle.hash_index.specs.Index.{homeIn, indexed}
+use Rattle.hash_index.specs.Index.{homeIn}
 use Rattle.hash_index.specs.IndexLaws.{length-indexed}
 use Rattle.hash_index.specs.SearchLaws.{row-home-below, left, Reached, reached-head, none-left, standing}
 use borrow.Author.Needs.{needs}
