@@ -44,7 +44,8 @@ use Rattle.execution.specs.Execution.{Logged, stagedLanes}
 use Rattle.predict.specs.Predict.{Served, servedLanes}
 use Rattle.action.specs.Act.{Lanes, acted, rowAsk, asking, unanswered, withLog, withServed}
 use Rattle.simulation.specs.Represents.{machine, LogIs, Follows, follows-map, sticks, stops, goes}
-use Rattle.simulation.specs.Passes.{noWords, outWords, Start, Ended, Ends, Waits, dst-is, out-word, length-words, length-both, missed-stuck, missedLanes, waits-words, waits-missed, answered-word, answered-lane, lookup-first, lookup-default, lookup-drop, external-drop, lookup-fallback, external-fallback, assert-eq, assert-ne, assert-any-ne}
+use Rattle.simulation.specs.Passes.{noWords, outWords, Start, Ended, Ends, Waits, dst-is, out-word, length-words, length-both, missed-stuck, missedLanes, waits-words, waits-missed, answered-word, answered-lane}
+use Rattle.simulation.specs.Reading.{lookup-first, lookup-default, lookup-drop, external-drop, lookup-fallback, external-fallback, assert-eq, assert-ne, assert-any-ne}
 use Rattle.simulation.specs.Staging.{Kept, Staged, list-pass, if-pass}
 use Rattle.simulation.specs.Serving.{OutIs, Serving, serve-pass}
 use Rattle.simulation.specs.Fits.{Fits}

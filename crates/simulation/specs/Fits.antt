@@ -27,7 +27,7 @@ use Rattle.instr.specs.Instr.{writeBy, entryAt, writeAt, listAt, pastList, inst
 use Rattle.instr.specs.InstrLaws.{entry-at}
 use Rattle.instr.specs.Meaning.{entryOf, entriesOf}
 use Rattle.instr.specs.Stands.{Short}
-use Rattle.simulation.specs.Passes.{Reads}
+use Rattle.simulation.specs.Reading.{Reads}
 use Rattle.simulation.specs.Building.{Writable}
 use Rattle.simulation.specs.Predicting.{TableOk}
 

@@ -1,5 +1,6 @@
 pub mod Turns
 pub mod Passes
+pub mod Reading
 pub mod Represents
 pub mod Staging
 pub mod Building
