@@ -7,35 +7,20 @@ use native.Mathlib.Nat.{mul-le-mul-left, mul-one}
 use native.Mathlib.Omega.{arith}
 use lib.Dec.{leb}
 use borrow.Author.Tests.{leb-true}
-use lib.ListN.{length, getD, take, drop, replicate}
-use lib.Seq.{paste, length-sets, length-paste, take-at, take-take}
-use Rattle.model.specs.Basics.{eqList, found, least, tab}
+use lib.ListN.{length, getD, drop, replicate}
+use lib.Seq.{paste, length-sets, length-paste}
+use Rattle.model.specs.Basics.{eqList, found, least}
 use Rattle.model.specs.Book.Decode.{part}
 use Rattle.model.specs.Commit.{mergeWords}
-use Rattle.model.specs.Laws.Lists.{length-tab}
-use Rattle.model.specs.Laws.Bodies.{length-part}
-use Rattle.words.specs.Filled.{filled, length-filled}
+use Rattle.words.specs.Filled.{filled}
 use Rattle.tables.specs.declared.TableInfo.{TableInfo}
 use Rattle.tables.specs.declared.Found.{Found}
 use Rattle.tables.specs.declared.Found.the-variants.{At, Nothing}
 use Rattle.tables.specs.Tables.{Stands, front, sameWords, rowAt, foundRow}
-use Rattle.tables.specs.TablesLaws.{front-take, next-row}
+use Rattle.tables.specs.TablesLaws.{front-take, key-front, next-row}
 use Rattle.commit.specs.Rows.{Rows, Sound, Stand, grown, overrun, newInfo, appended, putAt, putRow}
 
 -- ## A key in an array
-
-pub key-front : (row : List ℕ) (k : ℕ) → k ≤ length row → k ≤ 16 → front (filled (λ i. getD row i 0) k (replicate 16 0)) k ≡ take k row
-key-front row k h l =
-    let n = length-tab (λ (i : ℕ). getD row i 0) k in
-    front-take (filled (λ i. getD row i 0) k (replicate 16 0)) k (omega (arith, length-filled (λ (i : ℕ). getD row i 0) k (replicate 16 0) l))
-    ∙ take-at (tab (λ i. getD row i 0) k) (drop k (replicate 16 0)) k n
-    ∙ front-take row k h
-
-pub key-part : (w : List ℕ) (at width k : ℕ) (key : List ℕ) → key ≡ filled (λ i. getD (part w at width) i 0) k (replicate 16 0) → k ≤ width → at + width ≤ length w → k ≤ 16 → front key k ≡ part w at k
-key-part w at width k key e h l f =
-    ap (λ (x : List ℕ). front x k) e
-    ∙ key-front (part w at width) k (omega (arith, length-part w at width l)) f
-    ∙ take-take k width (drop at w) h
 
 -- a search goes by the key's words alone
 found-same : (w : List ℕ) (t : TableInfo) (a b : List ℕ) → front a (t .keys) ≡ front b (t .keys) → foundRow w t a ≡ foundRow w t b

@@ -38,7 +38,7 @@ fn keep_row(
     let k = info.keys;
     let width = info.width;
     let row = &words[at..at + width];
-    let key = rows::key_of(row, k);
+    let key = tables::key_of(row, k);
     if records::any_key(log, gone, &key, k) {
         return part;
     }

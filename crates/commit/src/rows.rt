@@ -1,8 +1,7 @@
 // A table's rows among the words that are lent for all: a row is appended, or merged into the one that has its key.
 ghost use mathlib.Core.Path.{_≡_};
-ghost use Prim.Native.Nat.{_+_, _≤_};
-ghost use lib.ListN.{length, getD, replicate};
-ghost use Rattle.words.specs.Filled.{filled};
+ghost use Prim.Native.Nat.{_≤_};
+ghost use lib.ListN.{length};
 ghost use Rattle.commit.specs.Rows.{Rows, Sound, Stand, appended, putRow};
 use crate::merge;
 use tables::Found;
@@ -14,20 +13,6 @@ pub struct Part {
     pub count: usize,
     pub used: usize,
     pub over: bool,
-}
-
-// The first k words of a row.
-pub fn key_of(row: &[u32], k: usize) -> [u32; 16]
-    requires { ⌜ (k ≤ length (now row)) × (k ≤ 16) ⌝ }
-    ensures { λ r. ⌜ r ≡ filled (λ i. getD (now (row .entry)) i 0) k (replicate 16 0) ⌝ }
-{
-    let mut key = [0u32; 16];
-    let mut i = 0;
-    while i < k {
-        key[i] = row[i];
-        i += 1;
-    }
-    key
 }
 
 // One row more, past the used words. Where a row has no room, neither it nor any after it is added.
@@ -64,7 +49,7 @@ pub fn put(rows: &mut [u32], part: Part, info: TableInfo, row: &[u32]) -> Part
     ensures { λ r. ⌜ _≡_ {A = Rows} (record { words = now (rows .exit); part = r }) (putRow info (now (row .entry)) (record { words = now (rows .entry); part = part })) ⌝ }
 {
     let k = info.keys;
-    let key = key_of(row, k);
+    let key = tables::key_of(row, k);
     let new = TableInfo {
         keys: k,
         width: info.width,

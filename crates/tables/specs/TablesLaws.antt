@@ -7,16 +7,18 @@ use mathlib.Core.List.{List, [], _∷_, _++_}
 use native.Mathlib.Nat.{add-mul, one-mul, mul-le-mul-right, le-add-right}
 use native.Mathlib.Numerals.{add-one-le}
 use native.Mathlib.Omega.{arith}
-use lib.ListN.{length, getD, take, drop, length-drop}
-use lib.Seq.{length-take-le, getD-take, getD-drop, take-take, ext-getD}
+use lib.ListN.{length, getD, take, drop, replicate, length-drop}
+use lib.Seq.{length-take-le, getD-take, getD-drop, take-at, take-take, ext-getD}
 use Rattle.model.specs.Basics.{eqList, found, only, least, tab}
 use Rattle.model.specs.Book.Syntax.{width}
 use Rattle.model.specs.Book.Scan.{Sizes}
 use Rattle.model.specs.Book.Decode.{part, rowPlace, readTable}
 use Rattle.model.specs.Machine.Values.{find}
 use Rattle.model.specs.Laws.Logic.{eqList-eq, eq-eqList}
-use Rattle.model.specs.Laws.Lists.{least-some, none-least, some-least, length-tab, getD-tab}
+use Rattle.model.specs.Laws.Lists.{Least, least-none, least-some, none-least, some-least, length-tab, getD-tab}
+use Rattle.model.specs.Laws.Bodies.{length-part}
 use Rattle.model.specs.Laws.Scan.{TableWords}
+use Rattle.words.specs.Filled.{filled, length-filled}
 use Rattle.tables.specs.declared.TableInfo.{TableInfo}
 use Rattle.tables.specs.declared.Found.{Found}
 use Rattle.tables.specs.declared.Found.the-variants.{At, Nothing}
@@ -29,6 +31,20 @@ front-take key k h =
     let n : length (take k key) ≡ k = length-take-le k key h in
     ext-getD 0 (front key k) (take k key) (length-tab (λ i. getD key i 0) k ∙ sym n)
     (λ i l. let m : i < k = omega (arith, length-tab (λ i. getD key i 0) k) in getD-tab (λ i. getD key i 0) k i 0 m ∙ sym (getD-take k key i 0 m))
+
+-- a key that was copied into an array
+pub key-front : (row : List ℕ) (k : ℕ) → k ≤ length row → k ≤ 16 → front (filled (λ i. getD row i 0) k (replicate 16 0)) k ≡ take k row
+key-front row k h l =
+    let n = length-tab (λ (i : ℕ). getD row i 0) k in
+    front-take (filled (λ i. getD row i 0) k (replicate 16 0)) k (omega (arith, length-filled (λ (i : ℕ). getD row i 0) k (replicate 16 0) l))
+    ∙ take-at (tab (λ i. getD row i 0) k) (drop k (replicate 16 0)) k n
+    ∙ front-take row k h
+
+pub key-part : (w : List ℕ) (at width k : ℕ) (key : List ℕ) → key ≡ filled (λ i. getD (part w at width) i 0) k (replicate 16 0) → k ≤ width → at + width ≤ length w → k ≤ 16 → front key k ≡ part w at k
+key-part w at width k key e h l f =
+    ap (λ (x : List ℕ). front x k) e
+    ∙ key-front (part w at width) k (omega (arith, length-part w at width l)) f
+    ∙ take-take k width (drop at w) h
 
 module _ (w : List ℕ) (at : ℕ) (key : List ℕ) (k : ℕ) where
   pub part-word : (i : ℕ) → i < k → getD (part w at k) i 0 ≡ getD w (at + i) 0
@@ -72,16 +88,31 @@ module _ (w : List ℕ) (t : TableInfo) (key : List ℕ) where
   unfolding foundRow
   found-nothing all = rw (none-least (λ i. sameWords w (rowAt t i) key (t .keys)) (t .rows) all)
 
-  -- the row that was found stands in the words
-  pub found-within : (p : ℕ) → foundRow w t key ≡ At p → p + t .width ≤ t .at + t .rows * t .width
+  abbrev Has : ℕ → Bool
+  Has i = sameWords w (rowAt t i) key (t .keys)
+
+  -- the row that was found is the first with the key
+  pub found-first : (p : ℕ) → foundRow w t key ≡ At p → (i : ℕ) × (rowAt t i ≡ p) × Least Has (t .rows) i
   unfolding foundRow
-  found-within p e = by (least (λ i. sameWords w (rowAt t i) key (t .keys)) (t .rows)) refl e
+  found-first p e = by (least Has (t .rows)) refl e
     where
-      by : (o : Option ℕ) → least (λ i. sameWords w (rowAt t i) key (t .keys)) (t .rows) ≡ o → found o (λ i. At (rowAt t i)) (λ _. Nothing) ≡ At p → p + t .width ≤ t .at + t .rows * t .width
+      by : (o : Option ℕ) → least Has (t .rows) ≡ o → found o (λ i. At (rowAt t i)) (λ _. Nothing) ≡ At p → (i : ℕ) × (rowAt t i ≡ p) × Least Has (t .rows) i
       by none q g = let z : _≡_ {A = ℕ} 0 1 = cc in absurd (omega arith)
-      by (some i) q g =
-          let r : rowAt t i ≡ p = cc in
-          omega (arith, row-within i (t .rows) (t .width) (least-some (λ i. sameWords w (rowAt t i) key (t .keys)) (t .rows) i q .below))
+      by (some i) q g = let r : rowAt t i ≡ p = cc in (i, r, least-some Has (t .rows) i q)
+
+  pub missing-all : foundRow w t key ≡ Nothing → (j : ℕ) → j < t .rows → Missed j
+  unfolding foundRow
+  missing-all e = by (least Has (t .rows)) refl e
+    where
+      by : (o : Option ℕ) → least Has (t .rows) ≡ o → found o (λ i. At (rowAt t i)) (λ _. Nothing) ≡ Nothing → (j : ℕ) → j < t .rows → Missed j
+      by none q g = least-none Has (t .rows) q
+      by (some i) q g = let z : _≡_ {A = ℕ} 0 1 = cc in absurd (omega arith)
+
+  -- it stands in the words
+  pub found-within : (p : ℕ) → foundRow w t key ≡ At p → p + t .width ≤ t .at + t .rows * t .width
+  found-within p e =
+      let f = found-first p e in
+      omega (arith, f .1, row-within (f .0) (t .rows) (t .width) (f .2 .below))
 
 -- ## The model's row
 

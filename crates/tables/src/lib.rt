@@ -1,8 +1,9 @@
 // The tables of a book: their sizes, their rows by key, and a row as a part of the words that hold it.
 ghost use mathlib.Core.Path.{_≡_};
-ghost use Prim.Native.Nat.{_+_, _≤_, _<_};
-ghost use lib.ListN.{length, getD};
-ghost use Rattle.tables.specs.Tables.{infoOf, sameWords, Stands, foundRow, rowOf, Holds};
+ghost use Prim.Native.Nat.{_+_, _^_, _≤_, _<_};
+ghost use lib.ListN.{length, getD, replicate};
+ghost use Rattle.words.specs.Filled.{filled};
+ghost use Rattle.tables.specs.Tables.{infoAt, infoOf, sameWords, Stands, foundRow, rowOf, Holds};
 
 // A table's key count, the words of a row, its merge rule, its row count, and the word of its first row.
 pub struct TableInfo {
@@ -32,11 +33,11 @@ fn size_at(words: &[u32], p: usize) -> usize
     words::size(words::word(words, p))
 }
 
-// Read from the book's words; of what is no table it says something or other.
-pub fn info_of(words: &[u32], t: ids::TableId) -> TableInfo
-    ensures { λ r. ⌜ r ≡ infoOf (now (words .entry)) (t .0) ⌝ }
+// Read from the book's words, where the table's body begins; of what is no table it says something or other.
+pub fn info_at(words: &[u32], body: usize) -> TableInfo
+    requires { ⌜ body + 4 < 2 ^ 64 ⌝ }
+    ensures { λ r. ⌜ r ≡ infoAt (now (words .entry)) body ⌝ }
 {
-    let body = size_at(words, 2 + 3 * words::size(t.0));
     let keys = size_at(words, body);
     let vals = size_at(words, body + 1);
     let merge = words::word(words, body + 2);
@@ -48,6 +49,27 @@ pub fn info_of(words: &[u32], t: ids::TableId) -> TableInfo
         rows,
         at: body + 4,
     }
+}
+
+// The same of the table with a number.
+pub fn info_of(words: &[u32], t: ids::TableId) -> TableInfo
+    ensures { λ r. ⌜ r ≡ infoOf (now (words .entry)) (t .0) ⌝ }
+{
+    info_at(words, size_at(words, 2 + 3 * words::size(t.0)))
+}
+
+// The first k words of a row.
+pub fn key_of(row: &[u32], k: usize) -> [u32; 16]
+    requires { ⌜ (k ≤ length (now row)) × (k ≤ 16) ⌝ }
+    ensures { λ r. ⌜ r ≡ filled (λ i. getD (now (row .entry)) i 0) k (replicate 16 0) ⌝ }
+{
+    let mut key = [0u32; 16];
+    let mut i = 0;
+    while i < k {
+        key[i] = row[i];
+        i += 1;
+    }
+    key
 }
 
 // Whether the k words from `at` on are the first k of the key.

@@ -5,7 +5,8 @@ use lib.ListN.{getD, take, drop, replicate}
 use denote.Ref.{now}
 use Rattle.words.specs.Filled.{filled}
 use Rattle.commit.specs.Rows.{appended}
-use Rattle.commit.specs.RowLaws.{few-rows, key-part}
+use Rattle.tables.specs.TablesLaws.{key-part}
+use Rattle.commit.specs.RowLaws.{few-rows}
 use Rattle.commit.specs.Commit.{spareRow}
 use borrow.Author.Needs.{needs}
 use Rattle.commit.proofs.keep_row.Statement.{statement}

@@ -19,54 +19,15 @@ add-size-at c = search needs
 size-at-requires : tie.Need-size-at-requires
 size-at-requires c κs = search needs
 
-size-at-requires-2 : tie.Need-size-at-requires-2
-size-at-requires-2 c κs = search needs
-
-add-size-at-2 : tie.Need-add-size-at-2
-add-size-at-2 c = search needs
-
-size-at-requires-3 : tie.Need-size-at-requires-3
-size-at-requires-3 c κs = search needs
-
-add-word : tie.Need-add-word
-add-word c = search needs
-
-word-requires : tie.Need-word-requires
-word-requires c κs = search needs
-
-add-size-at-3 : tie.Need-add-size-at-3
-add-size-at-3 c = search needs
-
-size-at-requires-4 : tie.Need-size-at-requires-4
-size-at-requires-4 c κs = search needs
-
-add-t10 : tie.Need-add-t10
-add-t10 c = search needs
-
-add-t8 : tie.Need-add-t8
-add-t8 c = search needs
+info-at-requires : tie.Need-info-at-requires
+info-at-requires c κs = search needs
 
 returns : tie.Need-returns
 returns c =
-    let w = now (c .before .before .before .before .before .before .before .args .words) in
-    let b = c .before .before .before .before .size-at .ensures .0 ∙ ap (λ (x : ℕ). getD w (2 + 3 * x) 0) (c .before .before .before .before .before .size .ensures .0) in
-    rw (c .before .before .before .size-at2 .ensures .0, c .before .before .size-at3 .ensures .0, c .before .word .ensures, c .size-at4 .ensures .0) (ap (infoAt w) b)
+    let w = now (c .before .before .before .before .args .words) in
+    c .info-at .ensures ∙ ap (infoAt w) (c .before .size-at .ensures .0 ∙ ap (λ (x : ℕ). getD w (2 + 3 * x) 0) (c .before .before .size .ensures .0))
 
 pub info-of-spec : {M : Type 1} → statement M
 info-of-spec =
     tie.close
-    (tie.spec
-    size-requires
-    mul-size-at
-    add-size-at
-    size-at-requires
-    size-at-requires-2
-    add-size-at-2
-    size-at-requires-3
-    add-word
-    word-requires
-    add-size-at-3
-    size-at-requires-4
-    add-t10
-    add-t8
-    returns)
+    (tie.spec size-requires mul-size-at add-size-at size-at-requires info-at-requires returns)

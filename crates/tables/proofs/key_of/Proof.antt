@@ -6,8 +6,8 @@ use lib.ListN.{getD, replicate}
 use Rattle.model.specs.Basics.{tab}
 use Rattle.words.specs.Filled.{filled, filled-turn}
 use borrow.Author.Needs.{needs}
-use Rattle.commit.proofs.rows.key_of.Statement.{statement}
-use Rattle.commit.proofs.rows.key_of.Tie as tie
+use Rattle.tables.proofs.key_of.Statement.{statement}
+use Rattle.tables.proofs.key_of.Tie as tie
 
 abbrev Inv-loop : tie.InvT-loop
 Inv-loop row k key₀ i₀ key i = (i ≤ k) × (key ≡ filled (λ i. getD row i 0) i (replicate 16 0))
