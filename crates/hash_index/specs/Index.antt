@@ -1,7 +1,9 @@
 -- The index: heads and tails of the chains by home, and the links of the rows.
-use Prim.Native.Nat.{ℕ, zero, suc, _+_, _/_}
+use Prim.Native.Nat.{ℕ, zero, suc, _+_, _/_, _≤_}
+use mathlib.Core.Path.{_≡_}
+use mathlib.Core.Logic.{_⊎_}
 use mathlib.Core.List.{List}
-use lib.ListN.{getD, set, replicate}
+use lib.ListN.{length, getD, set, replicate}
 use Rattle.model.specs.Basics.{iter, tab}
 use Rattle.tables.specs.declared.TableInfo.{TableInfo}
 use Rattle.tables.specs.Tables.{rowAt}
@@ -30,3 +32,7 @@ added n h x = set (set x (1024 + h) (n + 1)) (endOf (getD x (1024 + h) 0) h) (n 
 -- n rows
 unfoldable pub indexed : (ℕ → ℕ) → ℕ → List ℕ
 indexed home n = iter (λ i. added i (home i)) n (replicate 18432 0)
+
+-- the index of a table's rows, or none
+abbrev pub IndexOf : List ℕ → TableInfo → List ℕ → Type 0
+IndexOf w table index = (length index ≡ 0) ⊎ ((table .rows ≤ 16384) × (index ≡ indexed (homeIn w table) (table .rows)))

@@ -1,10 +1,11 @@
 // An index over the rows of a table, by key: 1024 heads and 1024 tails of chains, then a link for each row. A word of it is a row's number plus 1, or 0 for none. A chain has the rows whose keys have one home, ascending.
 ghost use mathlib.Core.Path.{_≡_};
+ghost use mathlib.Core.Bool.{true};
 ghost use Prim.Native.Nat.{_+_, _-_, _*_, _^_, _≤_, _<_};
 ghost use lib.ListN.{length, getD, replicate};
 ghost use Rattle.tables.specs.Tables.{Stands, rowAt, foundRow};
 ghost use Rattle.hash_index.specs.Fold.{spun, mixed};
-ghost use Rattle.hash_index.specs.Index.{homeAt, homeIn, endOf, added, indexed};
+ghost use Rattle.hash_index.specs.Index.{homeAt, homeIn, endOf, added, indexed, IndexOf};
 use tables::Found;
 use tables::TableInfo;
 
@@ -92,4 +93,25 @@ pub fn find(words: &[u32], index: &[u32], info: TableInfo, key: &[u32; 16]) -> F
         p = words::size(index[2047 + p]);
     }
     Found::Nothing
+}
+
+// The same, where an empty index is none, and all rows are looked at.
+pub fn look_up(words: &[u32], index: &[u32], info: TableInfo, key: &[u32; 16]) -> Found
+    requires { ⌜ Stands (now words) info × IndexOf (now words) info (now index) ⌝ }
+    ensures { λ r. ⌜ r ≡ foundRow (now (words .entry)) info (now (key .entry)) ⌝ }
+{
+    if index.len() == 0 {
+        return tables::find(words, info, key);
+    }
+    find(words, index, info, key)
+}
+
+// Whether a table has rows enough for an index to be of use, and no more than it has links for.
+pub fn serves(info: TableInfo) -> bool
+    ensures { λ r. ⌜ (r ≡ true → info .rows ≤ 16384) ⌝ }
+{
+    if info.rows <= 64 {
+        return false;
+    }
+    info.rows <= 16384
 }

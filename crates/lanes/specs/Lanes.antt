@@ -1,7 +1,5 @@
 -- What each lane is answered, and whether it passes a test: w is the book's words, m the memory of the bindings.
 use Prim.Native.Nat.{ℕ, _+_, _≤_}
-use mathlib.Core.Path.{_≡_}
-use mathlib.Core.Logic.{_⊎_}
 use mathlib.Core.Bool.{Bool, true, false, _&&_, not}
 use mathlib.Core.Option.{Option, none, some}
 use mathlib.Core.List.{List}
@@ -16,11 +14,10 @@ use Rattle.bindings.specs.Columns.{wordOf, fetched}
 use Rattle.instr.specs.declared.Entries.{Entries}
 use Rattle.instr.specs.Meaning.{entryOf}
 use Rattle.instr.specs.Stands.{Short}
-use Rattle.tables.specs.declared.TableInfo.{TableInfo}
 use Rattle.tables.specs.declared.Found.{Found}
 use Rattle.tables.specs.declared.Found.the-variants.{At, Nothing}
 use Rattle.tables.specs.Tables.{Stands, foundRow}
-use Rattle.hash_index.specs.Index.{homeIn, indexed}
+use Rattle.hash_index.specs.Index.{IndexOf}
 use Rattle.lanes.specs.declared.Ask.{Ask}
 use Rattle.lanes.specs.declared.Ask.the-variants.{Lookup, External, Entry}
 use Rattle.lanes.specs.declared.Test.{Test}
@@ -58,11 +55,7 @@ AskFits w (Lookup table key col) = Stands w table × Short key
 AskFits w (External func args) = Short args
 AskFits w (Entry e) = Unit {0}
 
--- the index of a table's rows, or none
-abbrev pub IndexOf : List ℕ → TableInfo → List ℕ → Type 0
-IndexOf w table index = (length index ≡ 0) ⊎ ((table .rows ≤ 16384) × (index ≡ indexed (homeIn w table) (table .rows)))
-
--- of the table that is asked
+-- the index of the table that is asked, or none
 abbrev pub IndexFor : List ℕ → Ask → List ℕ → Type 0
 IndexFor w (Lookup table key col) index = IndexOf w table index
 IndexFor w (External func args) index = Unit {0}

@@ -20,9 +20,9 @@ ghost use Rattle.functions.specs.Answers.{answerOf};
 ghost use Rattle.bindings.specs.Columns.{wordOf};
 ghost use Rattle.instr.specs.Meaning.{entryOf};
 ghost use Rattle.instr.specs.Stands.{Short};
-ghost use Rattle.tables.specs.Tables.{Stands, foundRow};
+ghost use Rattle.tables.specs.Tables.{Stands};
 ghost use Rattle.lanes.specs.declared.Ask.the-variants.{Lookup};
-ghost use Rattle.lanes.specs.Lanes.{listed, Begins, columnOf, asked, AskFits, IndexOf, IndexFor, holds, TestFits, isSome, orElse, answeredLanes, answeredWords, kept};
+ghost use Rattle.lanes.specs.Lanes.{listed, Begins, columnOf, asked, AskFits, IndexFor, holds, TestFits, isSome, orElse, answeredLanes, answeredWords, kept};
 
 // What a lane asks for: a column of the committed row with a key, what a function answers, or what an entry stands for.
 pub enum Ask {
@@ -74,17 +74,6 @@ fn column(words: &[u32], row: Found, col: ColumnId) -> Answer
     }
 }
 
-// The committed row with the key, by the table's index; an empty index is none, and all rows are looked at.
-fn find(words: &[u32], index: &[u32], table: TableInfo, key: &[u32; 16]) -> Found
-    requires { ⌜ Stands (now words) table × IndexOf (now words) table (now index) ⌝ }
-    ensures { λ r. ⌜ r ≡ foundRow (now (words .entry)) table (now (key .entry)) ⌝ }
-{
-    if index.len() == 0 {
-        return tables::find(words, table, key);
-    }
-    hash_index::find(words, index, table, key)
-}
-
 // What a lane is answered.
 fn answer(words: &[u32], bindings: &[u32], index: &[u32], ask: Ask, lane: Lane) -> Answer
     requires { ⌜ AskFits (now words) ask × IndexFor (now words) ask (now index) ⌝ }
@@ -94,7 +83,7 @@ fn answer(words: &[u32], bindings: &[u32], index: &[u32], ask: Ask, lane: Lane) 
         Ask::Lookup { table, key, col } => {
             let args = fetch(words, bindings, key, lane);
             let vals = args.vals;
-            column(words, find(words, index, table, &vals), col)
+            column(words, hash_index::look_up(words, index, table, &vals), col)
         }
         Ask::External { func, args } => functions::invoke(func, fetch(words, bindings, args, lane)),
         Ask::Entry(e) => Answer::Word(value(bindings, e, lane)),
@@ -191,13 +180,10 @@ fn fill_indexed(
 fn is_worth_it(table: TableInfo, mask: Mask) -> bool
     ensures { λ r. ⌜ (r ≡ true → table .rows ≤ 16384) ⌝ }
 {
-    if table.rows <= 64 {
-        return false;
+    if hash_index::serves(table) {
+        return 8 < mask.count();
     }
-    if 16384 < table.rows {
-        return false;
-    }
-    8 < mask.count()
+    false
 }
 
 // The same of any lookup.

@@ -1,8 +1,7 @@
 use Rattle.model.specs.Laws.Logic.{either}
 use borrow.Author.Needs.{needs}
-use Rattle.lanes.proofs.find.Statement.{statement}
-use Rattle.lanes.proofs.find.Tie as tie
-use Rattle.tables.proofs.find.Reads as find-reads′
+use Rattle.hash_index.proofs.look_up.Statement.{statement}
+use Rattle.hash_index.proofs.look_up.Tie as tie
 
 find-requires : tie.Need-find-requires
 find-requires c κs = search needs
@@ -16,5 +15,5 @@ find-requires-2 c κs = let p = c .before .before .before .pre in either (λ e. 
 returns-2 : tie.Need-returns-2
 returns-2 c = search needs
 
-pub find-spec : {M : Type 1} → statement M
-find-spec = tie.close (tie.spec find-requires returns find-requires-2 returns-2)
+pub look-up-spec : {M : Type 1} → statement M
+look-up-spec = tie.close (tie.spec find-requires returns find-requires-2 returns-2)
