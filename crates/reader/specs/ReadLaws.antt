@@ -18,7 +18,9 @@ use Rattle.model.specs.Book.Read.{drewAt, sizes, walk, rowsRefusal, bodyRefusal
 use Rattle.reader.specs.declared.Reading.{Reading}
 use Rattle.reader.specs.declared.Reading.the-variants.{Pass, Contents, Layout, Absent, Stale, Repeat}
 use Rattle.reader.specs.Reading.{refusalOf}
-use Rattle.reader.specs.Places.{TableAt, BodyAt}
+use Rattle.tables.specs.Tables.{infoAt}
+use Rattle.tables.specs.TablesLaws.{stands}
+use Rattle.reader.specs.Places.{RowsStand, BodyAt}
 
 -- ## A body
 
@@ -62,11 +64,12 @@ module _ {w : List ℕ} {z : Sizes} {i : ℕ} (b : BodyAt w z i) where
     unfolding bodyRefusal
     body-pass zp zq k = rw (← e, zp, zq, ne-eqb (kindOf w i) 1 k)
 
-    pub table-at : p ≡ 0 → q ≡ 0 → kindOf w i ≡ 1 → TableAt w (firstOf w i)
+    pub table-at : p ≡ 0 → q ≡ 0 → kindOf w i ≡ 1 → RowsStand w (infoAt w (firstOf w i))
     unfolding scan
     table-at zp zq k =
         let s : scanTable (endOf w i) w (sizes w) (firstOf w i) ≡ good at 0 0 = rw (k, zp, zq) at (sym e) in
-        omega (arith, table-words (sizes w) w (endOf w i) (firstOf w i) (there .after) (there .order) s .fills, there .within)
+        let t = table-words (sizes w) w (endOf w i) (firstOf w i) (there .after) (there .order) s in
+        record { stands = stands w (firstOf w i) (sizes w) (endOf w i) t (there .within); some = t .sum }
 
 -- ## All bodies
 

@@ -1,97 +1,135 @@
--- What the code of repeated keys leans on: keys as words of the book, and refusal 5 from the rows that were compared.
-use Prim.Native.Nat.{ℕ, _+_, _*_, _<_, _≤_}
-use mathlib.Core.Path.{_≡_, refl, sym, ap, _∙_}
-use mathlib.Core.Bool.{Bool, true, false, false≢true}
-use mathlib.Core.Option.{none, some}
+-- What the code of repeated keys leans on: refusal 5 from the first rows that have each row's key.
+use Prim.Native.Nat.{ℕ, _+_, _-_, _*_, _<_, _≤_}
+use mathlib.Core.Path.{_≡_, refl, sym, ap, _∙_, subst}
+use mathlib.Core.Logic.{_≢_}
+use mathlib.Core.Bool.{Bool, true, false, true≢false}
+use mathlib.Core.Option.{Option, none, some}
 use mathlib.Core.List.{List, []}
+use native.Mathlib.Decide.{decLt}
+use native.Mathlib.Nat.{add-sub-cancel-left, mul-le-mul-right}
 use native.Mathlib.Omega.{arith}
-use native.Mathlib.Nat.{suc-mul}
-use native.Mathlib.Numerals.{add-one}
-use lib.ListN.{length, getD, take, drop}
-use lib.Seq.{ext-getD, getD-take, getD-drop, take-take}
-use Rattle.model.specs.Basics.{eqList}
+use lib.Dec.{ltb}
+use lib.ListN.{length, getD, take, drop, replicate}
+use lib.Seq.{take-take}
+use borrow.Author.Tests.{lt-ltb, le-ltb}
 use Rattle.model.specs.Laws.Logic.{eqList-eq, eq-eqList}
 use Rattle.model.specs.Laws.Lists.{length-tab, getD-tab, none-least, some-least}
-use Rattle.model.specs.Laws.Bodies.{length-part, row-fits}
 use Rattle.model.specs.Laws.Rows.{repeat-true, repeat-false}
 use Rattle.model.specs.Claims.Refusals.{Repeats}
-use Rattle.model.specs.Book.Decode.{part, rowPlace, readTable}
+use Rattle.model.specs.Book.Words.{Refusal}
+use Rattle.model.specs.Book.Decode.{part, readTable}
 use Rattle.model.specs.Book.Read.{isRepeat, rowsRefusal}
-use Rattle.reader.specs.Places.{RowsAt}
+use Rattle.words.specs.Filled.{filled}
+use Rattle.tables.specs.declared.TableInfo.{TableInfo}
+use Rattle.tables.specs.declared.Found.the-variants.{At, Nothing}
+use Rattle.tables.specs.Tables.{infoAt, front, sameWords, rowAt, foundRow}
+use Rattle.tables.specs.TablesLaws.{key-part, row-within, found-first, missing-all}
+use Rattle.reader.specs.Places.{RowsStand, rowsOf, RowAt}
 
-getD-part : (w : List ℕ) (a n i : ℕ) → i < n → getD (part w a n) i 0 ≡ getD w (a + i) 0
-getD-part w a n i h = getD-take n (drop a w) i 0 h ∙ getD-drop a w i 0
-
--- n words from a on, against those from b on
-module _ (w : List ℕ) (a b n : ℕ) (fa : a + n ≤ length w) (fb : b + n ≤ length w) where
-  pub same-true : ((j : ℕ) → j < n → getD w (a + j) 0 ≡ getD w (b + j) 0) → true ≡ eqList (part w a n) (part w b n)
-  same-true h =
-      sym (eq-eqList _ _ (ext-getD 0 (part w a n) (part w b n) (length-part w a n fa ∙ sym (length-part w b n fb))
-      (λ i l. let m : i < n = omega (arith, length-part w a n fa) in getD-part w a n i m ∙ h i m ∙ sym (getD-part w b n i m))))
-
-  pub same-false : (k : ℕ) → k < n → (getD w (a + k) 0 ≡ getD w (b + k) 0 → ⊥) → false ≡ eqList (part w a n) (part w b n)
-  same-false k l ne = by (eqList (part w a n) (part w b n)) refl
-    where
-      by : (c : Bool) → eqList (part w a n) (part w b n) ≡ c → false ≡ c
-      by false e = refl
-      by true e = absurd (ne (sym (getD-part w a n k l) ∙ ap (λ (m : List ℕ). getD m k 0) (eqList-eq (part w a n) (part w b n) e) ∙ getD-part w b n k l))
-
-module _ {w : List ℕ} {at keys width : ℕ} (t : RowsAt w at keys width) where
+module _ {w : List ℕ} {t : TableInfo} (ok : RowsStand w t) where
   abbrev rows : List (List ℕ)
-  rows = readTable w at .rows
+  rows = rowsOf w t
 
-  abbrev n : ℕ
-  n = getD w (at + 3) 0
+  abbrev keyAt : ℕ → List ℕ
+  keyAt i = part w (rowAt t i) (t .keys)
 
-  -- where row i begins
-  abbrev own : ℕ → ℕ
-  own i = at + 4 + i * width
+  pub row-fit : (i : ℕ) → i < t .rows → rowAt t i + t .width ≤ length w
+  row-fit i h = omega (arith, row-within i (t .rows) (t .width) h, ok .stands .rows)
 
-  rows-length : length rows ≡ n
-  unfolding readTable
-  rows-length = length-tab _ n
+  rows-length : length rows ≡ t .rows
+  rows-length = length-tab (λ i. part w (rowAt t i) (t .width)) (t .rows)
 
-  keys-are : readTable w at .keys ≡ keys
-  unfolding readTable
-  keys-are = sym (t .isKeys)
+  key-is : (i : ℕ) → i < t .rows → take (t .keys) (getD rows i []) ≡ keyAt i
+  key-is i h = ap (take (t .keys)) (getD-tab (λ i. part w (rowAt t i) (t .width)) (t .rows) i [] h) ∙ take-take (t .keys) (t .width) (drop (rowAt t i) w) (ok .stands .keys)
 
-  row-is : (i : ℕ) → i < n → getD rows i [] ≡ part w (own i) width
-  unfolding readTable
-  row-is i h = getD-tab (λ i. part w (rowPlace w at i) (getD w at 0 + getD w (at + 1) 0)) n i [] h ∙ rw (t .isWidth)
+  -- rows stand in their order
+  before-row : (j i : ℕ) → rowAt t j < rowAt t i → j < i
+  before-row j i h = elim (decLt j i) [ yes l ↦ l | no l ↦ absurd (let m : i * t .width ≤ j * t .width = mul-le-mul-right (t .width) (omega arith) in omega arith) ]
 
-  key-is : (i : ℕ) → i < n → take keys (getD rows i []) ≡ part w (own i) keys
-  key-is i h = ap (take keys) (row-is i h) ∙ take-take keys width (drop (own i) w) (omega (arith, t .isKeys, t .isWidth))
+  from-row : (j i : ℕ) → rowAt t i ≤ rowAt t j → i ≤ j
+  from-row j i h = elim (decLt j i) [ yes l ↦ absurd (let m : j * t .width + t .width ≤ i * t .width = row-within j i (t .width) l in omega (arith, ok .some)) | no l ↦ omega arith ]
 
-  pub row-fit : (i : ℕ) → i < n → own i + width ≤ length w
-  row-fit i h = rw (t .isWidth) (omega (arith, row-fits i n (getD w at 0 + getD w (at + 1) 0) h, t .within))
+  -- ## Row i against the rows before it
+  module _ (i : ℕ) (h : i < t .rows) where
+    abbrev repeats : Bool
+    repeats = isRepeat (t .keys) rows i
 
-  pub next-row : (i : ℕ) → own i + width ≡ own (i + 1)
-  next-row i = omega (arith, ap (λ (k : ℕ). k * width) (add-one i) ∙ suc-mul i width)
-
-  -- row i against the rows before it
-  module _ (i : ℕ) (h : i < n) where
-    pub found-earlier : (j : ℕ) → j < i → true ≡ eqList (part w (own j) keys) (part w (own i) keys) → true ≡ isRepeat keys rows i
-    found-earlier j l e = by (isRepeat keys rows i) refl
+    repeated-yes : (j : ℕ) → j < i → keyAt j ≡ keyAt i → repeats ≡ true
+    repeated-yes j l e = by repeats refl
       where
-        by : (c : Bool) → isRepeat keys rows i ≡ c → true ≡ c
+        by : (c : Bool) → repeats ≡ c → c ≡ true
         by true q = refl
-        by false q = absurd (repeat-false keys rows i (omega (arith, rows-length)) q (record { earlier = j; less = l; same = key-is j (omega arith) ∙ eqList-eq (part w (own j) keys) (part w (own i) keys) (sym e) ∙ sym (key-is i h) }))
+        by false q = absurd (repeat-false (t .keys) rows i (omega (arith, rows-length)) q (record { earlier = j; less = l; same = key-is j (omega arith) ∙ e ∙ sym (key-is i h) }))
 
-    pub found-none : ((j : ℕ) → j < i → false ≡ eqList (part w (own j) keys) (part w (own i) keys)) → false ≡ isRepeat keys rows i
-    found-none all = by (isRepeat keys rows i) refl
+    repeated-no : ((j : ℕ) → j < i → keyAt j ≢ keyAt i) → repeats ≡ false
+    repeated-no all = by repeats refl
       where
-        clash : Repeats keys rows i → ⊥
-        clash r = false≢true (all (r .earlier) (r .less) ∙ eq-eqList (part w (own (r .earlier)) keys) (part w (own i) keys) (sym (key-is (r .earlier) (omega (arith, r .less))) ∙ r .same ∙ key-is i h))
+        clash : Repeats (t .keys) rows i → ⊥
+        clash r = all (r .earlier) (r .less) (sym (key-is (r .earlier) (omega (arith, r .less))) ∙ r .same ∙ key-is i h)
 
-        by : (c : Bool) → isRepeat keys rows i ≡ c → false ≡ c
+        by : (c : Bool) → repeats ≡ c → c ≡ false
         by false q = refl
-        by true q = absurd (clash (repeat-true keys rows i (omega (arith, rows-length)) q))
+        by true q = absurd (clash (repeat-true (t .keys) rows i (omega (arith, rows-length)) q))
 
-  -- all rows
-  pub refuse-row : (i p : ℕ) → i < n → p ≡ own i → ((j : ℕ) → j < i → false ≡ isRepeat keys rows j) → true ≡ isRepeat keys rows i → some (record { number = 5; place = p }) ≡ rowsRefusal w at
-  refuse-row i p h e before here =
-      let q = some-least (isRepeat (readTable w at .keys) rows) (length rows) i (record { below = omega (arith, rows-length); here = rw keys-are (sym here); before = λ j l. rw keys-are (sym (before j l)) }) in
-      rw q (ap (λ (p : ℕ). some (record { number = 5; place = p })) (e ∙ ap (λ (k : ℕ). at + 4 + i * k) (t .isWidth)))
+  -- ## The first row with the key of row i, which was copied from the row
+  module _ (i own : ℕ) (r : RowAt t i own) (key : List ℕ) (copied : key ≡ filled (λ j. getD (part w own (own + t .width - own)) j 0) (t .keys) (replicate 16 0)) where
+    its-key : front key (t .keys) ≡ keyAt i
+    its-key =
+        key-part w own (t .width) (t .keys) key (copied ∙ ap (λ (n : ℕ). filled (λ j. getD (part w own n) j 0) (t .keys) (replicate 16 0)) (add-sub-cancel-left own (t .width))) (ok .stands .keys) (omega (arith, row-fit i (r .below), r .isOwn)) (ok .stands .few)
+        ∙ ap (λ (p : ℕ). part w p (t .keys)) (r .isOwn)
 
-  pub pass-rows : ((j : ℕ) → j < n → false ≡ isRepeat keys rows j) → none ≡ rowsRefusal w at
-  pass-rows all = rw (none-least (isRepeat (readTable w at .keys) rows) (length rows) (λ j l. rw keys-are (sym (all j (omega (arith, rows-length))))))
+    abbrev has : ℕ → Bool
+    has j = sameWords w (rowAt t j) key (t .keys)
+
+    has-yes : (j : ℕ) → has j ≡ true → keyAt j ≡ keyAt i
+    unfolding sameWords
+    has-yes j e = eqList-eq (keyAt j) (front key (t .keys)) e ∙ its-key
+
+    has-no : (j : ℕ) → has j ≡ false → keyAt j ≢ keyAt i
+    unfolding sameWords
+    has-no j e q = true≢false (sym (eq-eqList (keyAt j) (front key (t .keys)) (q ∙ sym its-key)) ∙ e)
+
+    pub repeat-at : (p : ℕ) → foundRow w t key ≡ At p → ltb p own ≡ repeats i (r .below)
+    repeat-at p e =
+        let f = found-first w t key p e in
+        elim (decLt p own) [
+          | yes l ↦ lt-ltb p own l ∙ sym (repeated-yes i (r .below) (f .0) (before-row (f .0) i (omega (arith, f .1, r .isOwn))) (has-yes (f .0) (f .2 .here)))
+          | no l ↦ le-ltb p own (omega arith) ∙ sym (repeated-no i (r .below) (λ j m. has-no j (f .2 .before j (omega (arith, from-row (f .0) i (omega (arith, f .1, r .isOwn)))))))
+        ]
+
+    pub repeat-nothing : foundRow w t key ≡ Nothing → false ≡ repeats i (r .below)
+    repeat-nothing e = sym (repeated-no i (r .below) (λ j m. has-no j (missing-all w t key e j (omega (arith, r .below)))))
+
+-- ## All rows
+
+module _ (w : List ℕ) (at : ℕ) where
+  abbrev T : TableInfo
+  T = infoAt w at
+
+  abbrev repeatIn : ℕ → Bool
+  repeatIn = isRepeat (T .keys) (rowsOf w T)
+
+  rows-count : length (rowsOf w T) ≡ T .rows
+  rows-count = length-tab (λ i. part w (rowAt T i) (T .width)) (T .rows)
+
+  first-row : (i : ℕ) → i < T .rows → ((j : ℕ) → j < i → false ≡ repeatIn j) → true ≡ repeatIn i → some (record { number = 5; place = rowAt T i }) ≡ rowsRefusal w at
+  unfolding readTable
+  first-row i h before here = rw (some-least repeatIn (length (rowsOf w T)) i (record { below = omega (arith, rows-count); here = sym here; before = λ j l. sym (before j l) }))
+
+  no-row : ((j : ℕ) → j < T .rows → false ≡ repeatIn j) → none ≡ rowsRefusal w at
+  unfolding readTable
+  no-row all = rw (none-least repeatIn (length (rowsOf w T)) (λ j l. sym (all j (omega (arith, rows-count)))))
+
+-- of a table that was read from the words
+module _ (w : List ℕ) (t : TableInfo) (at : ℕ) (e : t ≡ infoAt w at) where
+  abbrev Free : TableInfo → ℕ → Type 0
+  Free t n = (j : ℕ) → j < n → false ≡ isRepeat (t .keys) (rowsOf w t) j
+
+  abbrev Refused : Option Refusal → Type 0
+  Refused r = r ≡ rowsRefusal w at
+
+  pub refuse-row : (i p : ℕ) → RowAt t i p → Free t i → true ≡ isRepeat (t .keys) (rowsOf w t) i → Refused (some (record { number = 5; place = p }))
+  refuse-row i p r = subst (λ (t : TableInfo). RowAt t i p → Free t i → true ≡ isRepeat (t .keys) (rowsOf w t) i → Refused (some (record { number = 5; place = p }))) (sym e) (λ r before here. ap (λ (p : ℕ). some (record { number = 5; place = p })) (r .isOwn) ∙ first-row w at i (r .below) before here) r
+
+  pub pass-rows : Free t (t .rows) → Refused none
+  pass-rows = subst (λ (t : TableInfo). Free t (t .rows) → Refused none) (sym e) (no-row w at)

@@ -1,57 +1,40 @@
-// Rows whose key stands earlier in their table: refusal 5. Each row is compared with all rows before it.
+// Rows whose key stands earlier in their table: refusal 5. A row is one if the first row with its key is another.
 ghost use mathlib.Core.Path.{_≡_};
-ghost use Prim.Native.Nat.{_+_, _≤_};
+ghost use Prim.Native.Nat.{ℕ, _+_, _≤_};
 ghost use lib.ListN.{length};
-ghost use Rattle.model.specs.Basics.{eqList};
-ghost use Rattle.model.specs.Book.Decode.{part, readTable};
 ghost use Rattle.model.specs.Book.Read.{isRepeat, rowsRefusal};
+ghost use Rattle.tables.specs.Tables.{infoAt};
+ghost use Rattle.hash_index.specs.Index.{IndexOf};
 ghost use Rattle.reader.specs.Reading.{refusalOf};
-ghost use Rattle.reader.specs.Places.{TableAt, RowsAt, RowAt};
+ghost use Rattle.reader.specs.Places.{RowsStand, rowsOf, RowAt};
 use crate::Reading;
-use crate::scan;
+use tables::Found;
+use tables::TableInfo;
 
-// Whether n words from a on are those from b on.
-fn same_key(words: &[u32], a: usize, b: usize, n: usize) -> bool
-    requires { ⌜ (a + n ≤ length (now words)) × (b + n ≤ length (now words)) ⌝ }
-    ensures { λ r. ⌜ r ≡ eqList (part (now (words .entry)) a n) (part (now (words .entry)) b n) ⌝ }
+// Whether the row that begins at `own` has the key of an earlier row.
+fn is_repeat(words: &[u32], index: &[u32], info: TableInfo, own: usize) -> bool
+    requires { ⌜ RowsStand (now words) info × IndexOf (now words) info (now index) × (own + info .width ≤ length (now words)) ⌝ }
+    ensures { λ r. ⌜ ((i : ℕ) → RowAt info i own → r ≡ isRepeat (info .keys) (rowsOf (now (words .entry)) info) i) ⌝ }
 {
-    let mut k = 0;
-    while k < n {
-        if words[a + k] != words[b + k] {
-            return false;
-        }
-        k += 1;
+    let width = info.width;
+    let key = tables::key_of(&words[own..own + width], info.keys);
+    match hash_index::look_up(words, index, info, &key) {
+        Found::At(p) => p < own,
+        Found::Nothing => false,
     }
-    true
 }
 
-// Whether row i of the table at `at`, which begins at `own`, has the key of an earlier row.
-fn is_repeat(words: &[u32], at: usize, keys: usize, width: usize, i: usize, own: usize) -> bool
-    requires { ⌜ RowAt (now words) at keys width i own ⌝ }
-    ensures { λ r. ⌜ r ≡ isRepeat keys (readTable (now (words .entry)) at .rows) i ⌝ }
+// The first row of a table that repeats a key, by the table's index or by none.
+fn first_repeat(words: &[u32], index: &[u32], info: TableInfo) -> Reading
+    requires { ⌜ RowsStand (now words) info × IndexOf (now words) info (now index) ⌝ }
+    ensures { λ r. ⌜ ((at : ℕ) → info ≡ infoAt (now (words .entry)) at → refusalOf r ≡ rowsRefusal (now (words .entry)) at) ⌝ }
 {
-    let mut p = at + 4;
-    let mut j = 0;
-    while j < i {
-        if same_key(words, p, own, keys) {
-            return true;
-        }
-        p += width;
-        j += 1;
-    }
-    false
-}
-
-// The first row of the table at `at` that repeats a key.
-fn first_repeat(words: &[u32], at: usize, keys: usize, width: usize) -> Reading
-    requires { ⌜ RowsAt (now words) at keys width ⌝ }
-    ensures { λ r. ⌜ refusalOf r ≡ rowsRefusal (now (words .entry)) at ⌝ }
-{
-    let n = scan::size_at(words, at + 3);
-    let mut own = at + 4;
+    let width = info.width;
+    let rows = info.rows;
+    let mut own = info.at;
     let mut i = 0;
-    while i < n {
-        if is_repeat(words, at, keys, width, i, own) {
+    while i < rows {
+        if is_repeat(words, index, info, own) {
             return Reading::Repeat(own);
         }
         own += width;
@@ -60,12 +43,24 @@ fn first_repeat(words: &[u32], at: usize, keys: usize, width: usize) -> Reading
     Reading::Pass
 }
 
+// The same, by an index that is made for it.
+fn first_indexed(words: &[u32], info: TableInfo) -> Reading
+    requires { ⌜ RowsStand (now words) info × (info .rows ≤ 16384) ⌝ }
+    ensures { λ r. ⌜ ((at : ℕ) → info ≡ infoAt (now (words .entry)) at → refusalOf r ≡ rowsRefusal (now (words .entry)) at) ⌝ }
+{
+    let mut index = [0u32; 18432];
+    hash_index::build(words, info, &mut index);
+    first_repeat(words, &index, info)
+}
+
 // Refusal 5 of the table at `at`.
 pub fn repeated(words: &[u32], at: usize) -> Reading
-    requires { ⌜ TableAt (now words) at ⌝ }
+    requires { ⌜ RowsStand (now words) (infoAt (now words) at) ⌝ }
     ensures { λ r. ⌜ refusalOf r ≡ rowsRefusal (now (words .entry)) at ⌝ }
 {
-    let keys = scan::size_at(words, at);
-    let vals = scan::size_at(words, at + 1);
-    first_repeat(words, at, keys, keys + vals)
+    let info = tables::info_at(words, at);
+    if hash_index::serves(info) {
+        return first_indexed(words, info);
+    }
+    first_repeat(words, &words[..0], info)
 }

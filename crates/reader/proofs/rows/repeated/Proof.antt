@@ -1,0 +1,44 @@
+use mathlib.Core.Path.{refl, sym, subst}
+use mathlib.Core.Logic.{inl}
+use denote.Ref.{now}
+use Rattle.reader.specs.Places.{RowsStand}
+use borrow.Author.Needs.{needs}
+use Rattle.reader.proofs.rows.repeated.Statement.{statement}
+use Rattle.reader.proofs.rows.repeated.Tie as tie
+
+info-at-requires : tie.Need-info-at-requires
+info-at-requires c κs = search needs
+
+serves-requires : tie.Need-serves-requires
+serves-requires c κs = search needs
+
+first-indexed-requires : tie.Need-first-indexed-requires
+first-indexed-requires c κs =
+    let w = now (c .before .before .before .before .args .words) in
+    (subst (RowsStand w) (sym (c .before .before .info-at .ensures)) (c .before .before .before .before .pre), c .before .serves .ensures (c .if1 .taken))
+
+returns : tie.Need-returns
+returns c = c .first-indexed .ensures (c .before .before .before .before .before .args .at) (c .before .before .before .info-at .ensures)
+
+slice-aggregate-first-repeat : tie.Need-slice-aggregate-first-repeat
+slice-aggregate-first-repeat c = search needs
+
+first-repeat-requires : tie.Need-first-repeat-requires
+first-repeat-requires c κs =
+    let w = now (c .before .before .before .before .before .args .words) in
+    (subst (RowsStand w) (sym (c .before .before .before .info-at .ensures)) (c .before .before .before .before .before .pre), inl refl)
+
+returns-2 : tie.Need-returns-2
+returns-2 c = c .first-repeat .ensures (c .before .before .before .before .before .before .args .at) (c .before .before .before .before .info-at .ensures)
+
+pub repeated-spec : {M : Type 1} → statement M
+repeated-spec =
+    tie.close
+    (tie.spec
+    info-at-requires
+    serves-requires
+    first-indexed-requires
+    returns
+    slice-aggregate-first-repeat
+    first-repeat-requires
+    returns-2)
