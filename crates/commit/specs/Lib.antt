@@ -1,8 +1,10 @@
 pub mod Rows
+pub mod Indexed
 pub mod Walk
 pub mod Commit
 pub mod MergeLaws
 pub mod RowLaws
+pub mod IndexedLaws
 pub mod WalkLaws
 pub mod KeyLaws
 pub mod TableLaws

@@ -1,10 +1,12 @@
 -- What the code that merges values leans on.
 use Prim.Native.Nat.{ℕ, zero, suc, _+_, _<_, _≤_}
 use mathlib.Core.Path.{_≡_, refl, sym, ap, _∙_}
+use mathlib.Core.Logic.{_≢_}
 use mathlib.Core.List.{List, [], _∷_}
+use native.Mathlib.Nat.{add-zero}
 use native.Mathlib.Omega.{arith}
-use lib.ListN.{length, getD, set, drop}
-use lib.Seq.{sets, ext-getD, getD-set-other, getD-take, getD-drop}
+use lib.ListN.{length, getD, set, drop, length-set}
+use lib.Seq.{sets, ext-getD, getD-set-same, getD-set-other, getD-take, getD-drop}
 use Rattle.model.specs.Basics.{tab}
 use Rattle.model.specs.Book.Decode.{part}
 use Rattle.model.specs.Commit.{mergeWord, mergeWords}
@@ -33,12 +35,20 @@ getD-merge m (a ∷ old) [] i h l = absurd (omega arith)
 getD-merge m (a ∷ old) (b ∷ new) zero h l = refl
 getD-merge m (a ∷ old) (b ∷ new) (suc i) h l = getD-merge m old new i (omega arith) (omega arith)
 
--- past what was stored, a word is as it was
-getD-stored : (vs l : List ℕ) (at : ℕ) → getD (sets l at vs) (at + length vs) 0 ≡ getD l (at + length vs) 0
-getD-stored [] l at = refl
-getD-stored (v ∷ vs) l at =
-    let e : at + suc (length vs) ≡ suc at + length vs = omega arith in
-    ap (λ (k : ℕ). getD (sets (set l at v) (suc at) vs) k 0) e ∙ getD-stored vs (set l at v) (suc at) ∙ getD-set-other l at (suc at + length vs) v 0 (λ q. omega arith) ∙ ap (λ (k : ℕ). getD l k 0) (sym e)
+-- a word that is none of those stored is as it was
+pub sets-other : (vs l : List ℕ) (at p : ℕ) → ((i : ℕ) → i < length vs → p ≢ at + i) → getD (sets l at vs) p 0 ≡ getD l p 0
+sets-other [] l at p h = refl
+sets-other (v ∷ vs) l at p h = sets-other vs (set l at v) (suc at) p (λ i q e. h (suc i) (omega arith) (omega arith)) ∙ getD-set-other l at p v 0 (λ e. h 0 (omega arith) (omega arith))
+
+pub sets-here : (vs l : List ℕ) (at i : ℕ) → at + length vs ≤ length l → i < length vs → getD (sets l at vs) (at + i) 0 ≡ getD vs i 0
+sets-here [] l at i h q = absurd (omega arith)
+sets-here (v ∷ vs) l at zero h q =
+    sets-other vs (set l at v) (suc at) (at + 0) (λ i q e. omega arith)
+    ∙ ap (λ (k : ℕ). getD (set l at v) k 0) (add-zero at)
+    ∙ getD-set-same l at v 0 (omega arith)
+sets-here (v ∷ vs) l at (suc i) h q =
+    let e : at + suc i ≡ suc at + i = omega arith in
+    ap (λ (k : ℕ). getD (sets (set l at v) (suc at) vs) k 0) e ∙ sets-here vs (set l at v) (suc at) i (omega (arith, length-set l at v)) (omega arith)
 
 module _ (rule : ℕ) (l : List ℕ) (at : ℕ) (new : List ℕ) where
   -- word i of the values, merged
@@ -49,7 +59,7 @@ module _ (rule : ℕ) (l : List ℕ) (at : ℕ) (new : List ℕ) where
   pub merge-turn : (i : ℕ) (cur : List ℕ) (v : ℕ) → cur ≡ sets l at (tab mergedWord i) → v ≡ mergeWord rule (getD cur (at + i) 0) (getD new i 0) → set cur (at + i) v ≡ sets l at (tab mergedWord (i + 1))
   merge-turn i cur v h e =
       let n = length-tab mergedWord i in
-      let old : getD cur (at + i) 0 ≡ getD l (at + i) 0 = ap (λ (x : List ℕ). getD x (at + i) 0) h ∙ ap (λ (k : ℕ). getD (sets l at (tab mergedWord i)) (at + k) 0) (sym n) ∙ getD-stored (tab mergedWord i) l at ∙ ap (λ (k : ℕ). getD l (at + k) 0) n in
+      let old : getD cur (at + i) 0 ≡ getD l (at + i) 0 = ap (λ (x : List ℕ). getD x (at + i) 0) h ∙ sets-other (tab mergedWord i) l at (at + i) (λ k q z. omega (arith, n)) in
       rw (e, old, h) (store-more mergedWord i l at)
 
   pub merge-all : at + length new ≤ length l → tab mergedWord (length new) ≡ mergeWords rule (part l at (length new)) new

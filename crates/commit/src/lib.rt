@@ -1,11 +1,12 @@
 // The commit: after a run the log's records go into the tables. The rows that come of it are written into words that are lent for them: table 0's, then table 1's, and so on, without gaps.
+mod inserts;
 mod merge;
 mod records;
 mod rows;
 
 pub use records::end_of;
 ghost use mathlib.Core.Path.{_≡_};
-ghost use Prim.Native.Nat.{ℕ, _+_, _^_, _<_, _≤_};
+ghost use Prim.Native.Nat.{ℕ, _+_, _<_, _≤_};
 ghost use lib.ListN.{length};
 ghost use Rattle.tables.specs.Tables.{infoOf};
 ghost use Rattle.commit.specs.Rows.{Rows, Stand};
@@ -96,7 +97,7 @@ fn commit_table(
     rows: &mut [u32],
     mut done: Committed,
 ) -> Committed
-    requires { ⌜ (t < 16) × Ready (now words) (infoOf (now words) t) × Room (now log) (now gone) × (done .used ≤ length (now rows)) × (length (now rows) < 2 ^ 32) ⌝ }
+    requires { ⌜ (t < 16) × Ready (now words) (infoOf (now words) t) × Room (now log) (now gone) × (done .used ≤ length (now rows)) × (length (now rows) ≤ 16384) ⌝ }
     ensures { λ r. ⌜ _≡_ {A = Left} (record { words = now (rows .exit); result = r }) (tableCommitted (now (words .entry)) (now (log .entry)) t (record { words = now (rows .entry); result = done })) ⌝ }
 {
     let id = TableId(t as u32);
@@ -108,7 +109,7 @@ fn commit_table(
         over: done.over,
     };
     let old = keep(words, log, id, info, gone, rows, start);
-    let all = records::insert_all(words, log, id, info, rows, old);
+    let all = inserts::insert_rows(words, log, id, info, rows, old);
     done.counts[t] = all.count as u32;
     done.used = all.used;
     done.over = all.over;
@@ -117,7 +118,7 @@ fn commit_table(
 
 // All tables of the book, with the words of the log's records. Where `over` says that a row had no room, the rows are not whole.
 pub fn commit(words: &[u32], tables: usize, log: &[u32], rows: &mut [u32]) -> Committed
-    requires { ⌜ (tables ≤ 16) × (length (now log) ≤ 16384) × (length (now rows) < 2 ^ 32) × ((t : ℕ) → t < tables → Ready (now words) (infoOf (now words) t)) ⌝ }
+    requires { ⌜ (tables ≤ 16) × (length (now log) ≤ 16384) × (length (now rows) ≤ 16384) × ((t : ℕ) → t < tables → Ready (now words) (infoOf (now words) t)) ⌝ }
     ensures { λ r. ⌜ _≡_ {A = Left} (record { words = now (rows .exit); result = r }) (committedRows (now (words .entry)) tables (now (log .entry)) (now (rows .entry))) ⌝ }
 {
     let mut done = Committed {

@@ -5,6 +5,7 @@ ghost use Prim.Native.Nat.{_+_, _^_, _<_, _≤_};
 ghost use lib.ListN.{length, take};
 ghost use Rattle.tables.specs.Tables.{infoOf, front};
 ghost use Rattle.commit.specs.Rows.{Rows, Sound, Stand};
+ghost use Rattle.commit.specs.Indexed.{IndexedRows};
 ghost use Rattle.commit.specs.Walk.{endOf, isInsertion, gatherTurn, removalKeys, anyKey, Within, Room, insertRow, inserted};
 use crate::rows;
 use crate::rows::Part;
@@ -73,9 +74,18 @@ pub fn any_key(log: &[u32], gone: &[u32], key: &[u32; 16], k: usize) -> bool
 }
 
 // The row of the record at p, if it is one of table t.
-fn insert(log: &[u32], p: usize, t: TableId, info: TableInfo, rows: &mut [u32], part: Part) -> Part
-    requires { ⌜ Sound info × Stand (info .width) (record { words = now rows; part = part }) × (p ≤ length (now log)) × (isInsertion (now log) (t .0) p ≡ true → p + 2 + info .width ≤ length (now log)) ⌝ }
-    ensures { λ r. ⌜ _≡_ {A = Rows} (record { words = now (rows .exit); part = r }) (insertRow (now (log .entry)) (t .0) info p (record { words = now (rows .entry); part = part })) ⌝ }
+fn insert(
+    log: &[u32],
+    p: usize,
+    t: TableId,
+    info: TableInfo,
+    rows: &mut [u32],
+    index: &mut [u32],
+    part: Part,
+) -> Part
+    requires { ⌜ Sound info × Stand (info .width) (record { words = now rows; part = part }) × IndexedRows info (record { words = now rows; part = part }) (now index) × (p ≤ length (now log)) × (isInsertion (now log) (t .0) p ≡ true → p + 2 + info .width ≤ length (now log)) ⌝ }
+    ensures rows { λ r. ⌜ _≡_ {A = Rows} (record { words = now (rows .exit); part = r }) (insertRow (now (log .entry)) (t .0) info p (record { words = now (rows .entry); part = part })) ⌝ }
+    ensures index { λ r. ⌜ IndexedRows info (record { words = now (rows .exit); part = r }) (now (index .exit)) ⌝ }
 {
     if words::word(log, p + 1) != t.0 {
         return part;
@@ -85,26 +95,27 @@ fn insert(log: &[u32], p: usize, t: TableId, info: TableInfo, rows: &mut [u32], 
     }
     let from = p + 2;
     let end = from + info.width;
-    rows::put(rows, part, info, &log[from..end])
+    rows::put(rows, index, part, info, &log[from..end])
 }
 
-// The rows of all records that are some of table t, in the log's order.
+// The rows of all records that are some of table t, in the log's order. An empty index is none.
 pub fn insert_all(
     words: &[u32],
     log: &[u32],
     t: TableId,
     info: TableInfo,
     rows: &mut [u32],
+    index: &mut [u32],
     start: Part,
 ) -> Part
-    requires { ⌜ (info ≡ infoOf (now words) (t .0)) × Sound info × Stand (info .width) (record { words = now rows; part = start }) ⌝ }
+    requires { ⌜ (info ≡ infoOf (now words) (t .0)) × Sound info × Stand (info .width) (record { words = now rows; part = start }) × IndexedRows info (record { words = now rows; part = start }) (now index) ⌝ }
     ensures { λ r. ⌜ _≡_ {A = Rows} (record { words = now (rows .exit); part = r }) (inserted (now (words .entry)) (now (log .entry)) (t .0) info (record { words = now (rows .entry); part = start })) ⌝ }
 {
     let mut part = start;
     let mut p = 0;
     let mut end = end_of(words, log, 0);
     while end <= log.len() {
-        part = insert(log, p, t, info, rows, part);
+        part = insert(log, p, t, info, rows, index, part);
         p = end;
         end = end_of(words, log, p);
     }

@@ -1,8 +1,10 @@
-// A table's rows among the words that are lent for all: a row is appended, or merged into the one that has its key.
+// A table's rows among the words that are lent for all: a row is appended, or merged into the one that has its key. An index of the rows may be lent to find that one.
 ghost use mathlib.Core.Path.{_≡_};
 ghost use Prim.Native.Nat.{_≤_};
 ghost use lib.ListN.{length};
-ghost use Rattle.commit.specs.Rows.{Rows, Sound, Stand, appended, putRow};
+ghost use Rattle.tables.specs.Tables.{foundRow};
+ghost use Rattle.commit.specs.Rows.{Rows, Sound, Stand, newInfo, appended, putRow};
+ghost use Rattle.commit.specs.Indexed.{IndexedRows};
 use crate::merge;
 use tables::Found;
 use tables::TableInfo;
@@ -43,25 +45,63 @@ pub fn append(rows: &mut [u32], part: Part, row: &[u32]) -> Part
     }
 }
 
-// A row of the log. Its values are merged into the row that has its key; else it is appended.
-pub fn put(rows: &mut [u32], part: Part, info: TableInfo, row: &[u32]) -> Part
-    requires { ⌜ Sound info × Stand (info .width) (record { words = now rows; part = part }) × (length (now row) ≡ info .width) ⌝ }
-    ensures { λ r. ⌜ _≡_ {A = Rows} (record { words = now (rows .exit); part = r }) (putRow info (now (row .entry)) (record { words = now (rows .entry); part = part })) ⌝ }
+// The table as it stands among the rows.
+pub fn table_of(info: TableInfo, part: Part) -> TableInfo
+    ensures { λ r. ⌜ r ≡ newInfo info part ⌝ }
 {
-    let k = info.keys;
-    let key = tables::key_of(row, k);
-    let new = TableInfo {
-        keys: k,
+    TableInfo {
+        keys: info.keys,
         width: info.width,
         merge: info.merge,
         rows: part.count,
         at: part.from,
-    };
-    match tables::find(rows, new, &key) {
+    }
+}
+
+// The row with the key, by the index of the rows; an empty index is none, and all rows are looked at.
+fn find(rows: &[u32], index: &[u32], part: Part, info: TableInfo, key: &[u32; 16]) -> Found
+    requires { ⌜ Sound info × Stand (info .width) (record { words = now rows; part = part }) × IndexedRows info (record { words = now rows; part = part }) (now index) ⌝ }
+    ensures { λ r. ⌜ r ≡ foundRow (now (rows .entry)) (newInfo info part) (now (key .entry)) ⌝ }
+{
+    hash_index::look_up(rows, index, table_of(info, part), key)
+}
+
+// A row appended, and noted in the index if there is one.
+fn append_noted(
+    rows: &mut [u32],
+    index: &mut [u32],
+    part: Part,
+    info: TableInfo,
+    row: &[u32],
+) -> Part
+    requires { ⌜ Sound info × Stand (info .width) (record { words = now rows; part = part }) × IndexedRows info (record { words = now rows; part = part }) (now index) × (length (now row) ≡ info .width) ⌝ }
+    ensures rows { λ r. ⌜ _≡_ {A = Rows} (record { words = now (rows .exit); part = r }) (appended (now (row .entry)) (record { words = now (rows .entry); part = part })) ⌝ }
+    ensures index { λ r. ⌜ IndexedRows info (record { words = now (rows .exit); part = r }) (now (index .exit)) ⌝ }
+{
+    let longer = append(rows, part, row);
+    if index.len() == 0 {
+        return longer;
+    }
+    if longer.count == part.count {
+        return longer;
+    }
+    hash_index::add(index, part.count, hash_index::home(row, 0, info.keys));
+    longer
+}
+
+// A row of the log. Its values are merged into the row that has its key; else it is appended.
+pub fn put(rows: &mut [u32], index: &mut [u32], part: Part, info: TableInfo, row: &[u32]) -> Part
+    requires { ⌜ Sound info × Stand (info .width) (record { words = now rows; part = part }) × IndexedRows info (record { words = now rows; part = part }) (now index) × (length (now row) ≡ info .width) ⌝ }
+    ensures rows { λ r. ⌜ _≡_ {A = Rows} (record { words = now (rows .exit); part = r }) (putRow info (now (row .entry)) (record { words = now (rows .entry); part = part })) ⌝ }
+    ensures index { λ r. ⌜ IndexedRows info (record { words = now (rows .exit); part = r }) (now (index .exit)) ⌝ }
+{
+    let k = info.keys;
+    let key = tables::key_of(row, k);
+    match find(rows, index, part, info, &key) {
         Found::At(p) => {
             merge::merge_words(rows, p + k, &row[k..], info.merge);
             part
         }
-        Found::Nothing => append(rows, part, row),
+        Found::Nothing => append_noted(rows, index, part, info, row),
     }
 }

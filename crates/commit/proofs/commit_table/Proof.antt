@@ -1,6 +1,7 @@
 use mathlib.Core.Path.{_≡_, sym, ap, _∙_, subst}
 use native.Mathlib.Omega.{arith}
 use denote.Ref.{now}
+use lib.ListN.{length}
 use Rattle.tables.specs.declared.TableInfo.{TableInfo}
 use Rattle.tables.specs.Tables.{infoOf}
 use Rattle.commit.specs.Rows.{Rows, Sound, Stand}
@@ -12,17 +13,17 @@ use borrow.Author.Needs.{needs}
 use Rattle.commit.proofs.commit_table.Statement.{statement}
 use Rattle.commit.proofs.commit_table.Tie as tie
 
--- what `keep` and `insert_all` leave, by the table's info
+-- what `keep` and `insert_rows` leave, by the table's info
 old-is : (c : tie.After-keep) → _≡_ {A = Rows} (record { words = c .keep .last .1 .1 .1 .1 .1 .0; part = c .keep .result }) (kept (now (c .before .before .before .before .before .before .before .before .args .words)) (now (c .before .before .before .before .before .before .before .before .args .log)) (c .before .before .before .before .before .before .before .before .args .t) (infoOf (now (c .before .before .before .before .before .before .before .before .args .words)) (c .before .before .before .before .before .before .before .before .args .t)) (infoOf (now (c .before .before .before .before .before .before .before .before .args .words)) (c .before .before .before .before .before .before .before .before .args .t) .rows) (begun (record { words = now (c .before .before .before .before .before .before .before .before .args .rows); result = c .before .before .before .before .before .before .before .before .args .t6 })))
 old-is c =
     let a = c .before .before .before .before .before .before .before .before .args in
     c .keep .ensures ∙ ap (λ (i : TableInfo). kept (now (a .words)) (now (a .log)) (a .t) i (i .rows) (begun (record { words = now (a .rows); result = a .t6 }))) (c .before .before .before .info-of .ensures)
 
-all-is : (c : tie.After-insert-all) → _≡_ {A = Rows} (record { words = c .insert-all .last .1 .1 .1 .1 .0; part = c .insert-all .result }) (inserted (now (c .before .before .before .before .before .before .before .before .before .before .before .before .before .before .args .words)) (now (c .before .before .before .before .before .before .before .before .before .before .before .before .before .before .args .log)) (c .before .before .before .before .before .before .before .before .before .before .before .before .before .before .args .t) (infoOf (now (c .before .before .before .before .before .before .before .before .before .before .before .before .before .before .args .words)) (c .before .before .before .before .before .before .before .before .before .before .before .before .before .before .args .t)) (kept (now (c .before .before .before .before .before .before .before .before .before .before .before .before .before .before .args .words)) (now (c .before .before .before .before .before .before .before .before .before .before .before .before .before .before .args .log)) (c .before .before .before .before .before .before .before .before .before .before .before .before .before .before .args .t) (infoOf (now (c .before .before .before .before .before .before .before .before .before .before .before .before .before .before .args .words)) (c .before .before .before .before .before .before .before .before .before .before .before .before .before .before .args .t)) (infoOf (now (c .before .before .before .before .before .before .before .before .before .before .before .before .before .before .args .words)) (c .before .before .before .before .before .before .before .before .before .before .before .before .before .before .args .t) .rows) (begun (record { words = now (c .before .before .before .before .before .before .before .before .before .before .before .before .before .before .args .rows); result = c .before .before .before .before .before .before .before .before .before .before .before .before .before .before .args .t6 }))))
+all-is : (c : tie.After-insert-rows) → _≡_ {A = Rows} (record { words = c .insert-rows .last .1 .1 .1 .1 .0; part = c .insert-rows .result }) (inserted (now (c .before .before .before .before .before .before .before .before .before .before .before .before .before .before .args .words)) (now (c .before .before .before .before .before .before .before .before .before .before .before .before .before .before .args .log)) (c .before .before .before .before .before .before .before .before .before .before .before .before .before .before .args .t) (infoOf (now (c .before .before .before .before .before .before .before .before .before .before .before .before .before .before .args .words)) (c .before .before .before .before .before .before .before .before .before .before .before .before .before .before .args .t)) (kept (now (c .before .before .before .before .before .before .before .before .before .before .before .before .before .before .args .words)) (now (c .before .before .before .before .before .before .before .before .before .before .before .before .before .before .args .log)) (c .before .before .before .before .before .before .before .before .before .before .before .before .before .before .args .t) (infoOf (now (c .before .before .before .before .before .before .before .before .before .before .before .before .before .before .args .words)) (c .before .before .before .before .before .before .before .before .before .before .before .before .before .before .args .t)) (infoOf (now (c .before .before .before .before .before .before .before .before .before .before .before .before .before .before .args .words)) (c .before .before .before .before .before .before .before .before .before .before .before .before .before .before .args .t) .rows) (begun (record { words = now (c .before .before .before .before .before .before .before .before .before .before .before .before .before .before .args .rows); result = c .before .before .before .before .before .before .before .before .before .before .before .before .before .before .args .t6 }))))
 all-is c =
     let a = c .before .before .before .before .before .before .before .before .before .before .before .before .before .before .args in
     let o = c .before .before .before .before .before .before .keep in
-    c .insert-all .ensures ∙ ap (λ (i : TableInfo). inserted (now (a .words)) (now (a .log)) (a .t) i (record { words = o .last .1 .1 .1 .1 .1 .0; part = o .result })) (c .before .before .before .before .before .before .before .before .before .info-of .ensures) ∙ ap (inserted (now (a .words)) (now (a .log)) (a .t) (infoOf (now (a .words)) (a .t))) (old-is (c .before .before .before .before .before .before))
+    c .insert-rows .ensures ∙ ap (λ (i : TableInfo). inserted (now (a .words)) (now (a .log)) (a .t) i (record { words = o .last .1 .1 .1 .1 .1 .0; part = o .result })) (c .before .before .before .before .before .before .before .before .before .info-of .ensures) ∙ ap (inserted (now (a .words)) (now (a .log)) (a .t) (infoOf (now (a .words)) (a .t))) (old-is (c .before .before .before .before .before .before))
 
 cast-done : tie.Need-cast-done
 cast-done c = search needs
@@ -37,14 +38,16 @@ keep-requires c κs =
     let e = c .before .before .info-of .ensures in
     (e, subst (Ready (now (a .words))) (sym e) (pre .1), pre .2, record { used = omega arith; within = pre .3 })
 
-insert-all-requires : tie.Need-insert-all-requires
-insert-all-requires c κs =
+insert-rows-requires : tie.Need-insert-rows-requires
+insert-rows-requires c κs =
     let a = c .before .before .before .before .before .before .before .before .before .before .before .before .before .args in
     let pre = c .before .before .before .before .before .before .before .before .before .before .before .before .before .pre in
+    let k = old-keeps (now (a .words)) (now (a .log)) (a .t) (record { words = now (a .rows); result = a .t6 }) (pre .1) (pre .3) in
     let e = c .before .before .before .before .before .before .before .before .info-of .ensures in (
       e,
       subst Sound (sym e) (ready-sound (pre .1)),
-      subst (λ (i : TableInfo). Stand (i .width) (record { words = c .before .before .before .before .before .keep .last .1 .1 .1 .1 .1 .0; part = c .before .before .before .before .before .keep .result })) (sym e) (subst (Stand ((infoOf (now (a .words)) (a .t)) .width)) (sym (old-is (c .before .before .before .before .before))) (old-keeps (now (a .words)) (now (a .log)) (a .t) (record { words = now (a .rows); result = a .t6 }) (pre .1) (pre .3) .0)),
+      subst (λ (i : TableInfo). Stand (i .width) (record { words = c .before .before .before .before .before .keep .last .1 .1 .1 .1 .1 .0; part = c .before .before .before .before .before .keep .result })) (sym e) (subst (Stand ((infoOf (now (a .words)) (a .t)) .width)) (sym (old-is (c .before .before .before .before .before))) (k .0)),
+      omega (arith, ap (λ (s : Rows). length (s .words)) (old-is (c .before .before .before .before .before)), k .1, pre .4),
     )
 
 cast-done-2 : tie.Need-cast-done-2
@@ -79,7 +82,7 @@ commit-table-spec =
     cast-done
     info-of-requires
     keep-requires
-    insert-all-requires
+    insert-rows-requires
     cast-done-2
     mul-done
     element-write-done

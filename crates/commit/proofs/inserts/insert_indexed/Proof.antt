@@ -1,0 +1,51 @@
+use mathlib.Core.Path.{refl, sym, ap, _∙_, subst}
+use mathlib.Core.Logic.{inr}
+use native.Mathlib.Omega.{arith}
+use denote.Ref.{now}
+use Rattle.tables.specs.declared.TableInfo.{TableInfo}
+use Rattle.tables.specs.Tables.{Stands}
+use Rattle.hash_index.specs.Index.{homeIn, indexed}
+use Rattle.commit.specs.RowLaws.{few-rows, new-stands}
+use borrow.Author.Needs.{needs}
+use Rattle.commit.proofs.inserts.insert_indexed.Statement.{statement}
+use Rattle.commit.proofs.inserts.insert_indexed.Tie as tie
+
+table-of-requires : tie.Need-table-of-requires
+table-of-requires c κs = search needs
+
+slice-aggregate-build : tie.Need-slice-aggregate-build
+slice-aggregate-build c = search needs
+
+build-requires : tie.Need-build-requires
+build-requires c κs =
+    let a = c .before .before .before .before .before .before .args in
+    let p = c .before .before .before .before .before .before .pre in
+    let e = c .before .table-of .ensures in
+    (subst (Stands (now (a .rows))) (sym e) (new-stands (p .1) (p .2)), omega (arith, ap (λ (t : TableInfo). t .rows) e, few-rows (p .1 .some) (p .2), p .3), refl)
+
+slice-aggregate-insert-all : tie.Need-slice-aggregate-insert-all
+slice-aggregate-insert-all c = search needs
+
+insert-all-requires : tie.Need-insert-all-requires
+insert-all-requires c κs =
+    let a = c .before .before .before .before .before .before .before .before .before .before .args in
+    let p = c .before .before .before .before .before .before .before .before .before .before .pre in
+    (p .0, p .1, p .2, inr (p .3, c .before .before .before .build .ensures ∙ ap (λ (t : TableInfo). indexed (homeIn (now (a .rows)) t) (t .rows)) (c .before .before .before .before .before .table-of .ensures)))
+
+same-length : tie.Need-same-length
+same-length c = search needs
+
+returns : tie.Need-returns
+returns c = search needs
+
+pub insert-indexed-spec : {M : Type 1} → statement M
+insert-indexed-spec =
+    tie.close
+    (tie.spec
+    table-of-requires
+    slice-aggregate-build
+    build-requires
+    slice-aggregate-insert-all
+    insert-all-requires
+    same-length
+    returns)

@@ -1,0 +1,59 @@
+// The log's rows put into a table: by an index of its rows, where that is sooner made than the rows are looked at.
+ghost use mathlib.Core.Path.{_≡_};
+ghost use Prim.Native.Nat.{_≤_};
+ghost use lib.ListN.{length};
+ghost use Rattle.tables.specs.Tables.{infoOf};
+ghost use Rattle.commit.specs.Rows.{Rows, Sound, Stand};
+ghost use Rattle.commit.specs.Walk.{inserted};
+use crate::records;
+use crate::rows;
+use crate::rows::Part;
+use ids::TableId;
+use tables::TableInfo;
+
+// Whether there are rows enough, in a log of so many words and in a table that has `count`.
+fn is_worth_it(log: usize, count: usize) -> bool {
+    if log < 128 {
+        return false;
+    }
+    if 1024 <= log {
+        return true;
+    }
+    256 <= count
+}
+
+// By an index that is made for it.
+fn insert_indexed(
+    words: &[u32],
+    log: &[u32],
+    t: TableId,
+    info: TableInfo,
+    rows: &mut [u32],
+    start: Part,
+) -> Part
+    requires { ⌜ (info ≡ infoOf (now words) (t .0)) × Sound info × Stand (info .width) (record { words = now rows; part = start }) × (length (now rows) ≤ 16384) ⌝ }
+    ensures { λ r. ⌜ _≡_ {A = Rows} (record { words = now (rows .exit); part = r }) (inserted (now (words .entry)) (now (log .entry)) (t .0) info (record { words = now (rows .entry); part = start })) ⌝ }
+{
+    let mut index = [0u32; 18432];
+    hash_index::build(rows, rows::table_of(info, start), &mut index);
+    records::insert_all(words, log, t, info, rows, &mut index, start)
+}
+
+// The rows of all records that are some of table t, in the log's order.
+pub fn insert_rows(
+    words: &[u32],
+    log: &[u32],
+    t: TableId,
+    info: TableInfo,
+    rows: &mut [u32],
+    start: Part,
+) -> Part
+    requires { ⌜ (info ≡ infoOf (now words) (t .0)) × Sound info × Stand (info .width) (record { words = now rows; part = start }) × (length (now rows) ≤ 16384) ⌝ }
+    ensures { λ r. ⌜ _≡_ {A = Rows} (record { words = now (rows .exit); part = r }) (inserted (now (words .entry)) (now (log .entry)) (t .0) info (record { words = now (rows .entry); part = start })) ⌝ }
+{
+    if is_worth_it(log.len(), start.count) {
+        return insert_indexed(words, log, t, info, rows, start);
+    }
+    let mut none = [0u32; 0];
+    records::insert_all(words, log, t, info, rows, &mut none, start)
+}
