@@ -16,10 +16,10 @@ fn is_worth_it(log: usize, count: usize) -> bool {
     if log < 128 {
         return false;
     }
-    if 1024 <= log {
+    if 512 <= log {
         return true;
     }
-    256 <= count
+    64 <= count
 }
 
 // By an index that is made for it.
