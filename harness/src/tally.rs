@@ -1,5 +1,5 @@
 //! What a run of many cases came to, and whether everything that should be tried was.
-use book::{Book, LIMIT, Step};
+use book::{Book, Instr, LIMIT, Step};
 
 use crate::case::{Case, Room};
 use crate::judge::Verdict;
@@ -21,7 +21,7 @@ const INSTRS: [&str; 13] = [
     "ReadCounter",
 ];
 const MERGES: [&str; 4] = ["keep", "replace", "least", "greatest"];
-const SHAPES: [&str; 7] = [
+const SHAPES: [&str; 9] = [
     "0 lanes",
     "1 lane",
     "256 lanes",
@@ -29,6 +29,8 @@ const SHAPES: [&str; 7] = [
     "a prediction before a batch",
     "a prediction after a batch",
     "a counter near its limit",
+    "over 64 rows looked up by over 8 lanes",
+    "a log of 512 words",
 ];
 const ROOMS: [&str; 3] = ["log", "tables", "answer"];
 
@@ -40,7 +42,7 @@ pub struct Tally {
     pub disagreements: u64,
     refused: [u64; 17],
     coverage: Coverage,
-    shapes: [u64; 7],
+    shapes: [u64; 9],
     exactly_full: [u64; 3],
     one_short: [u64; 3],
 }
@@ -49,8 +51,9 @@ fn add<const N: usize>(to: &mut [u64; N], from: &[u64; N]) {
     to.iter_mut().zip(from).for_each(|(to, from)| *to += from);
 }
 
-/// Which of the shapes a book has.
-fn shapes(book: &Book) -> [bool; 7] {
+/// Which of the shapes a book has that stages so many words. The last two are large enough for the engine to make an
+/// index of rows.
+fn shapes(book: &Book, log_words: usize) -> [bool; 9] {
     let prediction = |step: &Step| matches!(step, Step::Prediction { .. });
     let bare = |step: &Step| matches!(step, Step::Batch { columns, .. } if columns.is_empty());
     let lanes = |n: u32| {
@@ -59,7 +62,28 @@ fn shapes(book: &Book) -> [bool; 7] {
     };
     let pair = |first: bool| book.steps.windows(2).any(|two| [&two[0], &two[1]].map(prediction) == [first, !first]);
     let near_limit = book.counters.iter().any(|next| *next >= LIMIT - 40);
-    [lanes(0), lanes(1), lanes(256), book.steps.iter().any(bare), pair(true), pair(false), near_limit]
+    let large = |table: u32| book.tables[table as usize].rows.len() > 64;
+    let looks_up = |instr: &Instr| match instr {
+        Instr::LookupOrInsertDefault { table, .. }
+        | Instr::LookupWithDefault { table, .. }
+        | Instr::Lookup { table, .. }
+        | Instr::LookupWithFallback { table, .. } => large(*table),
+        _ => false,
+    };
+    let indexed = |step: &Step| {
+        matches!(step, Step::Batch { rule, lanes, .. } if *lanes > 8 && book.rules[*rule as usize].code.iter().any(looks_up))
+    };
+    [
+        lanes(0),
+        lanes(1),
+        lanes(256),
+        book.steps.iter().any(bare),
+        pair(true),
+        pair(false),
+        near_limit,
+        book.steps.iter().any(indexed),
+        log_words >= 512,
+    ]
 }
 
 impl Tally {
@@ -78,7 +102,7 @@ impl Tally {
         }
         if let (Some(ran), Some(book)) = (&verdict.ran, &verdict.book) {
             self.note_coverage(&ran.coverage);
-            add(&mut self.shapes, &shapes(book).map(u64::from));
+            add(&mut self.shapes, &shapes(book, ran.log_words).map(u64::from));
             let lent = [verdict.lent.log, verdict.lent.tables, verdict.lent.answer];
             let needed = [ran.log_words, ran.row_words, ran.answer.len()];
             add(&mut self.exactly_full, &[0, 1, 2].map(|i| u64::from(needed[i] > 0 && needed[i] == lent[i])));
