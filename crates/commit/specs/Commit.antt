@@ -1,20 +1,15 @@
 -- What the commit leaves: the words of all rows, table by table, and how many there are.
-use Prim.Native.Nat.{ℕ, _<_}
+use Prim.Native.Nat.{ℕ}
 use mathlib.Core.Bool.{false, cond}
 use mathlib.Core.List.{List}
 use lib.ListN.{set, replicate}
 use Rattle.model.specs.Basics.{iter}
 use Rattle.model.specs.Book.Decode.{part}
 use Rattle.tables.specs.declared.TableInfo.{TableInfo}
-use Rattle.tables.specs.Tables.{infoOf, Stands, rowAt}
+use Rattle.tables.specs.Tables.{infoOf, rowAt}
 use Rattle.commit.specs.declared.Committed.{Committed}
 use Rattle.commit.specs.Rows.{Rows, appended}
 use Rattle.commit.specs.Walk.{removed, anyKey, inserted}
-
--- a table of the book, with a word in each row
-pub record Ready (w : List ℕ) (i : TableInfo) : Type 0 where
-  pub stands : Stands w i
-  pub some : 0 < i .width
 
 module _ (w log : List ℕ) (t : ℕ) (i : TableInfo) where
   -- the row at `at` of table t, unless it is removed

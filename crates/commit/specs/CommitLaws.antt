@@ -23,10 +23,10 @@ use Rattle.model.specs.Laws.Logic.{and-split, at-length}
 use Rattle.model.specs.Laws.Lists.{length-tab, getD-tab, all-tab}
 use Rattle.log.specs.Log.{placeOf}
 use Rattle.tables.specs.declared.TableInfo.{TableInfo}
-use Rattle.tables.specs.Tables.{infoOf, rowAt}
+use Rattle.tables.specs.Tables.{infoOf, rowAt, RowsStand}
 use Rattle.commit.specs.Rows.{Rows, appended, putRow}
 use Rattle.commit.specs.Walk.{insertRow, inserted}
-use Rattle.commit.specs.Commit.{Ready, Left, keepRow, kept, begun, ended, tableCommitted, committedRows}
+use Rattle.commit.specs.Commit.{Left, keepRow, kept, begun, ended, tableCommitted, committedRows}
 use Rattle.commit.specs.Laid.{Wide, length-join, put-wide, onto, laid, Laid, append-laid, put-laid}
 use Rattle.commit.specs.RecordLaws.{Sized, recordsOf, size-is, its-size, insertion-is, words-are, walk-records}
 use Rattle.commit.specs.Removals.{remain, remain-snoc, remain-all, named, removals-remain, removed-is}
@@ -39,7 +39,7 @@ module _ (w : List ℕ) (rs : List Record) (sized : All (Sized w) rs) (base : Li
 
   -- ## A table
 
-  module _ (t : ℕ) (ready : Ready w (infoOf w t)) (done : List ℕ) where
+  module _ (t : ℕ) (ready : RowsStand w (infoOf w t)) (done : List ℕ) where
     abbrev T : Table
     T = readTable w (firstOf w t)
 

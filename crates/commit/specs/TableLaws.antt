@@ -9,14 +9,14 @@ use Rattle.model.specs.Book.Decode.{part}
 use Rattle.model.specs.Laws.Iter.{iter-keeps, iter-agree}
 use Rattle.model.specs.Laws.Bodies.{length-part}
 use Rattle.tables.specs.declared.TableInfo.{TableInfo}
-use Rattle.tables.specs.Tables.{infoOf, rowAt}
+use Rattle.tables.specs.Tables.{infoOf, rowAt, RowsStand}
 use Rattle.tables.specs.TablesLaws.{row-within}
 use Rattle.commit.specs.Rows.{Rows, Sound, Stand, appended}
 use Rattle.commit.specs.RowLaws.{Keeps, append-keeps}
 use Rattle.commit.specs.Walk.{removed, removalKeys, anyKey, inserted}
 use Rattle.commit.specs.WalkLaws.{inserted-keeps}
 use Rattle.commit.specs.KeyLaws.{any-removed}
-use Rattle.commit.specs.Commit.{Ready, Left, keepRow, kept, spareRow, spared, begun, tableCommitted}
+use Rattle.commit.specs.Commit.{Left, keepRow, kept, spareRow, spared, begun, tableCommitted}
 
 -- a row that is kept unless b says that it is removed
 unless-keeps : (w : List ℕ) (i : TableInfo) (at : ℕ) (s : Rows) → at + i .width ≤ length w → Stand (i .width) s → (b : Bool) → Keeps (i .width) s (cond b s (appended (part w at (i .width)) s))
@@ -36,7 +36,7 @@ pub spared-kept : (w log : List ℕ) (t : ℕ) (i : TableInfo) (n : ℕ) (s : Ro
 unfolding spared kept spareRow keepRow
 spared-kept w log t i n s = iter-agree _ _ n s (λ j x l. ap (λ (b : Bool). cond b x (appended (part w (rowAt i j) (i .width)) x)) (any-removed log (i .keys) (part w (rowAt i j) (i .keys)) w t))
 
-pub kept-keeps : (w log : List ℕ) (t : ℕ) (i : TableInfo) (s : Rows) → Ready w i → Stand (i .width) s → Keeps (i .width) s (kept w log t i (i .rows) s)
+pub kept-keeps : (w log : List ℕ) (t : ℕ) (i : TableInfo) (s : Rows) → RowsStand w i → Stand (i .width) s → Keeps (i .width) s (kept w log t i (i .rows) s)
 unfolding kept
 kept-keeps w log t i s r st = iter-keeps (Keeps (i .width) s) (λ j. keepRow w log t i (rowAt i j)) (i .rows) s (st, refl) one
   where
@@ -46,7 +46,7 @@ kept-keeps w log t i s r st = iter-keeps (Keeps (i .width) s) (λ j. keepRow w l
         (m .0, m .1 ∙ k .1)
 
 -- a table's rows after the commit, past those before it
-module _ (w log : List ℕ) (t : ℕ) (c : Left) (r : Ready w (infoOf w t)) (l : c .result .used ≤ length (c .words)) where
+module _ (w log : List ℕ) (t : ℕ) (c : Left) (r : RowsStand w (infoOf w t)) (l : c .result .used ≤ length (c .words)) where
   begun-stands : Stand (infoOf w t .width) (begun c)
   begun-stands = record { used = omega arith; within = l }
 
@@ -62,5 +62,5 @@ module _ (w log : List ℕ) (t : ℕ) (c : Left) (r : Ready w (infoOf w t)) (l :
   unfolding tableCommitted
   table-fits = (table-keeps .1, omega (arith, table-keeps .0 .within, table-keeps .1))
 
-pub ready-sound : {w : List ℕ} {i : TableInfo} → Ready w i → Sound i
+pub ready-sound : {w : List ℕ} {i : TableInfo} → RowsStand w i → Sound i
 ready-sound r = record { keys = r .stands .keys; few = r .stands .few; some = r .some }

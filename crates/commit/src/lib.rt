@@ -8,10 +8,10 @@ pub use records::end_of;
 ghost use mathlib.Core.Path.{_≡_};
 ghost use Prim.Native.Nat.{ℕ, _+_, _<_, _≤_};
 ghost use lib.ListN.{length};
-ghost use Rattle.tables.specs.Tables.{infoOf};
+ghost use Rattle.tables.specs.Tables.{infoOf, RowsStand};
 ghost use Rattle.commit.specs.Rows.{Rows, Stand};
 ghost use Rattle.commit.specs.Walk.{Within, Room};
-ghost use Rattle.commit.specs.Commit.{Ready, Left, kept, spareRow, spared, tableCommitted, committedRows};
+ghost use Rattle.commit.specs.Commit.{Left, kept, spareRow, spared, tableCommitted, committedRows};
 use crate::rows::Part;
 use ids::TableId;
 use tables::TableInfo;
@@ -33,7 +33,7 @@ fn keep_row(
     rows: &mut [u32],
     part: Part,
 ) -> Part
-    requires { ⌜ Ready (now words) info × Within (now log) (info .keys) (now gone) × (at + info .width ≤ length (now words)) × Stand (info .width) (record { words = now rows; part = part }) ⌝ }
+    requires { ⌜ RowsStand (now words) info × Within (now log) (info .keys) (now gone) × (at + info .width ≤ length (now words)) × Stand (info .width) (record { words = now rows; part = part }) ⌝ }
     ensures { λ r. ⌜ _≡_ {A = Rows} (record { words = now (rows .exit); part = r }) (spareRow (now (words .entry)) (now (log .entry)) (now (gone .entry)) info at (record { words = now (rows .entry); part = part })) ⌝ }
 {
     let k = info.keys;
@@ -55,7 +55,7 @@ fn keep_rows(
     rows: &mut [u32],
     start: Part,
 ) -> Part
-    requires { ⌜ Ready (now words) info × Within (now log) (info .keys) (now gone) × Stand (info .width) (record { words = now rows; part = start }) ⌝ }
+    requires { ⌜ RowsStand (now words) info × Within (now log) (info .keys) (now gone) × Stand (info .width) (record { words = now rows; part = start }) ⌝ }
     ensures { λ r. ⌜ _≡_ {A = Rows} (record { words = now (rows .exit); part = r }) (spared (now (words .entry)) (now (log .entry)) (now (gone .entry)) info (info .rows) (record { words = now (rows .entry); part = start })) ⌝ }
 {
     let n = info.rows;
@@ -81,7 +81,7 @@ fn keep(
     rows: &mut [u32],
     start: Part,
 ) -> Part
-    requires { ⌜ (info ≡ infoOf (now words) (t .0)) × Ready (now words) info × Room (now log) (now gone) × Stand (info .width) (record { words = now rows; part = start }) ⌝ }
+    requires { ⌜ (info ≡ infoOf (now words) (t .0)) × RowsStand (now words) info × Room (now log) (now gone) × Stand (info .width) (record { words = now rows; part = start }) ⌝ }
     ensures { λ r. ⌜ _≡_ {A = Rows} (record { words = now (rows .exit); part = r }) (kept (now (words .entry)) (now (log .entry)) (t .0) info (info .rows) (record { words = now (rows .entry); part = start })) ⌝ }
 {
     let n = records::removals(words, log, t, gone);
@@ -97,7 +97,7 @@ fn commit_table(
     rows: &mut [u32],
     mut done: Committed,
 ) -> Committed
-    requires { ⌜ (t < 16) × Ready (now words) (infoOf (now words) t) × Room (now log) (now gone) × (done .used ≤ length (now rows)) × (length (now rows) ≤ 16384) ⌝ }
+    requires { ⌜ (t < 16) × RowsStand (now words) (infoOf (now words) t) × Room (now log) (now gone) × (done .used ≤ length (now rows)) × (length (now rows) ≤ 16384) ⌝ }
     ensures { λ r. ⌜ _≡_ {A = Left} (record { words = now (rows .exit); result = r }) (tableCommitted (now (words .entry)) (now (log .entry)) t (record { words = now (rows .entry); result = done })) ⌝ }
 {
     let id = TableId(t as u32);
@@ -118,7 +118,7 @@ fn commit_table(
 
 // All tables of the book, with the words of the log's records. Where `over` says that a row had no room, the rows are not whole.
 pub fn commit(words: &[u32], tables: usize, log: &[u32], rows: &mut [u32]) -> Committed
-    requires { ⌜ (tables ≤ 16) × (length (now log) ≤ 16384) × (length (now rows) ≤ 16384) × ((t : ℕ) → t < tables → Ready (now words) (infoOf (now words) t)) ⌝ }
+    requires { ⌜ (tables ≤ 16) × (length (now log) ≤ 16384) × (length (now rows) ≤ 16384) × ((t : ℕ) → t < tables → RowsStand (now words) (infoOf (now words) t)) ⌝ }
     ensures { λ r. ⌜ _≡_ {A = Left} (record { words = now (rows .exit); result = r }) (committedRows (now (words .entry)) tables (now (log .entry)) (now (rows .entry))) ⌝ }
 {
     let mut done = Committed {

@@ -9,12 +9,7 @@ use Rattle.model.specs.Book.Scan.{Sizes}
 use Rattle.model.specs.Book.Decode.{part}
 use Rattle.model.specs.Book.Read.{sizes}
 use Rattle.tables.specs.declared.TableInfo.{TableInfo}
-use Rattle.tables.specs.Tables.{Stands, rowAt}
-
--- the rows of a table stand in the book, and have words
-pub record RowsStand (w : List ℕ) (t : TableInfo) : Type 0 where
-  pub stands : Stands w t
-  pub some : 0 < t .width
+use Rattle.tables.specs.Tables.{rowAt}
 
 -- the rows, as the model has them
 abbrev pub rowsOf : List ℕ → TableInfo → List (List ℕ)

@@ -18,9 +18,9 @@ use Rattle.model.specs.Book.Read.{drewAt, sizes, walk, rowsRefusal, bodyRefusal
 use Rattle.reader.specs.declared.Reading.{Reading}
 use Rattle.reader.specs.declared.Reading.the-variants.{Pass, Contents, Layout, Absent, Stale, Repeat}
 use Rattle.reader.specs.Reading.{refusalOf}
-use Rattle.tables.specs.Tables.{infoAt}
+use Rattle.tables.specs.Tables.{infoAt, RowsStand}
 use Rattle.tables.specs.TablesLaws.{stands}
-use Rattle.reader.specs.Places.{RowsStand, BodyAt}
+use Rattle.reader.specs.Places.{BodyAt}
 
 -- ## A body
 

@@ -22,9 +22,9 @@ use Rattle.model.specs.Book.Read.{isRepeat, rowsRefusal}
 use Rattle.words.specs.Filled.{filled}
 use Rattle.tables.specs.declared.TableInfo.{TableInfo}
 use Rattle.tables.specs.declared.Found.the-variants.{At, Nothing}
-use Rattle.tables.specs.Tables.{infoAt, front, sameWords, rowAt, foundRow}
+use Rattle.tables.specs.Tables.{infoAt, front, sameWords, rowAt, foundRow, RowsStand}
 use Rattle.tables.specs.TablesLaws.{key-part, row-within, found-first, missing-all}
-use Rattle.reader.specs.Places.{RowsStand, rowsOf, RowAt}
+use Rattle.reader.specs.Places.{rowsOf, RowAt}
 
 module _ {w : List ℕ} {t : TableInfo} (ok : RowsStand w t) where
   abbrev rows : List (List ℕ)

@@ -1,5 +1,5 @@
 -- Tables as they stand in a book's words: sizes, the row with a key, and a row's words.
-use Prim.Native.Nat.{ℕ, _+_, _*_, _≤_}
+use Prim.Native.Nat.{ℕ, _+_, _*_, _<_, _≤_}
 use mathlib.Core.Bool.{Bool}
 use mathlib.Core.List.{List}
 use lib.ListN.{length, getD}
@@ -24,6 +24,11 @@ pub record Stands (w : List ℕ) (t : TableInfo) : Type 0 where
   pub rows : t .at + t .rows * t .width ≤ length w
   pub keys : t .keys ≤ t .width
   pub few : t .keys ≤ 16
+
+-- and a row has words
+pub record RowsStand (w : List ℕ) (t : TableInfo) : Type 0 where
+  pub stands : Stands w t
+  pub some : 0 < t .width
 
 -- the first k words of an array
 abbrev pub front : List ℕ → ℕ → List ℕ

@@ -3,11 +3,11 @@ use native.Mathlib.Omega.{arith}
 use denote.Ref.{now}
 use lib.ListN.{length}
 use Rattle.tables.specs.declared.TableInfo.{TableInfo}
-use Rattle.tables.specs.Tables.{infoOf}
+use Rattle.tables.specs.Tables.{infoOf, RowsStand}
 use Rattle.commit.specs.Rows.{Rows, Sound, Stand}
 use Rattle.commit.specs.RowLaws.{few-rows}
 use Rattle.commit.specs.Walk.{inserted}
-use Rattle.commit.specs.Commit.{Ready, kept, begun, ended, tableCommitted}
+use Rattle.commit.specs.Commit.{kept, begun, ended, tableCommitted}
 use Rattle.commit.specs.TableLaws.{old-keeps, table-keeps, ready-sound}
 use borrow.Author.Needs.{needs}
 use Rattle.commit.proofs.commit_table.Statement.{statement}
@@ -36,7 +36,7 @@ keep-requires c κs =
     let a = c .before .before .before .before .before .before .before .args in
     let pre = c .before .before .before .before .before .before .before .pre in
     let e = c .before .before .info-of .ensures in
-    (e, subst (Ready (now (a .words))) (sym e) (pre .1), pre .2, record { used = omega arith; within = pre .3 })
+    (e, subst (RowsStand (now (a .words))) (sym e) (pre .1), pre .2, record { used = omega arith; within = pre .3 })
 
 insert-rows-requires : tie.Need-insert-rows-requires
 insert-rows-requires c κs =

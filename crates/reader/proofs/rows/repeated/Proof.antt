@@ -1,8 +1,8 @@
 use mathlib.Core.Path.{refl, sym, subst}
 use mathlib.Core.Logic.{inl}
 use denote.Ref.{now}
-use Rattle.reader.specs.Places.{RowsStand}
 use borrow.Author.Needs.{needs}
+use Rattle.tables.specs.Tables.{RowsStand}
 use Rattle.reader.proofs.rows.repeated.Statement.{statement}
 use Rattle.reader.proofs.rows.repeated.Tie as tie
 
