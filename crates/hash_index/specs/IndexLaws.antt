@@ -12,7 +12,7 @@ use lib.ListN.{length, getD, set, replicate, length-set, length-replicate, getD-
 use lib.Seq.{getD-set-same, getD-set-other}
 use borrow.Author.Tests.{eqb-true, eqb-false}
 use Rattle.model.specs.Laws.Logic.{either, le-cases}
-use Rattle.hash_index.specs.Index.{endOf, added, indexed}
+use Rattle.hash_index.specs.Index.{endOf, added, indexed, Tails}
 use Rattle.hash_index.specs.Chains.{First, Last, none, some, first-other, first-kept, first-new, first-past, last-other, last-new, last-none}
 
 pub end-head : (last h : ℕ) → last ≡ 0 → h ≡ endOf last h
@@ -22,6 +22,32 @@ pub end-link : (last h : ℕ) → last ≢ 0 → 2047 + last ≡ endOf last h
 end-link zero h n = absurd (n refl)
 end-link (suc l) h n = omega arith
 
+-- ## The tails
+
+pub tails-none : Tails 0 (replicate 18432 0)
+tails-none = record { size = length-replicate {A = ℕ} 18432 0; below = λ h lt. omega (arith, getD-replicate {A = ℕ} 18432 (1024 + h) 0 0 (omega arith)) }
+
+-- one row more
+pub tails-more : (n h : ℕ) (x : List ℕ) → Tails n x → h < 1024 → Tails (n + 1) (added n h x)
+unfolding added
+tails-more n h x t lt = record {
+  size = length-set (set x (1024 + h) (n + 1)) (endOf (getD x (1024 + h) 0) h) (n + 1) ∙ length-set x (1024 + h) (n + 1) ∙ t .size;
+  below = λ g m. below g m (getD x (1024 + h) 0);
+}
+  where
+    apart : (g l : ℕ) → g < 1024 → 1024 + g ≢ endOf l h
+    apart g zero m q = omega arith
+    apart g (suc l) m q = omega arith
+
+    by : (g : ℕ) → g < 1024 → (b : Bool) → eqb g h ≡ b → getD (set x (1024 + h) (n + 1)) (1024 + g) 0 ≤ n + 1
+    by g m true e = let q : 1024 + g ≡ 1024 + h = omega (arith, eqb-true g h e) in rw q (omega (arith, getD-set-same x (1024 + h) (n + 1) 0 (omega (arith, t .size))))
+    by g m false e = omega (arith, getD-set-other x (1024 + h) (1024 + g) (n + 1) 0 (λ q. eqb-false g h e (omega arith)), t .below g m)
+
+    below : (g : ℕ) → g < 1024 → (l : ℕ) → getD (set (set x (1024 + h) (n + 1)) (endOf l h) (n + 1)) (1024 + g) 0 ≤ n + 1
+    below g m l = rw (getD-set-other (set x (1024 + h) (n + 1)) (endOf l h) (1024 + g) (n + 1) 0 (apart g l m)) (by g m (eqb g h) refl)
+
+-- ## The chains
+
 module _ (home : ℕ → ℕ) where
   -- the index of the first n rows
   pub record Right (n : ℕ) (x : List ℕ) : Type 0 where
@@ -30,10 +56,6 @@ module _ (home : ℕ → ℕ) where
     pub tails : (h : ℕ) → h < 1024 → Last home n h (getD x (1024 + h) 0)
     pub links : (j : ℕ) → j < n → First home n (home j) (suc j) (getD x (2048 + j) 0)
     pub free : (j : ℕ) → n ≤ j → j < 16384 → getD x (2048 + j) 0 ≡ 0
-
-  last-below : {n h v : ℕ} → Last home n h v → v ≤ n
-  last-below (none f) = omega arith
-  last-below (some j lt e f) = omega arith
 
   -- ## One row more
 
@@ -161,7 +183,11 @@ module _ (home : ℕ → ℕ) where
 
   -- what adding a row asks for
   pub tail-below : (n h : ℕ) → n ≤ 16384 → ((j : ℕ) → home j < 1024) → h < 1024 → getD (indexed home n) (1024 + h) 0 ≤ n
-  tail-below n h few small lt = last-below (indexed-right n few small .tails h lt)
+  tail-below n h few small lt = below (indexed-right n few small .tails h lt)
+    where
+      below : {v : ℕ} → Last home n h v → v ≤ n
+      below (none f) = omega arith
+      below (some j lt e f) = omega arith
 
   pub length-indexed : (n : ℕ) → n ≤ 16384 → ((j : ℕ) → home j < 1024) → length (indexed home n) ≡ 18432
   length-indexed n few small = indexed-right n few small .size

@@ -4,3 +4,5 @@ pub mod Index
 pub mod Chains
 pub mod IndexLaws
 pub mod SearchLaws
+pub mod Book
+pub mod BookLaws

@@ -1,11 +1,16 @@
-// An index over the rows of a table, by key: 1024 heads and 1024 tails of chains, then a link for each row. A word of it is a row's number plus 1, or 0 for none. A chain has the rows whose keys have one home, ascending.
+// An index over the rows of one or more tables, by key: 1024 heads and 1024 tails of chains, then a link for each row. A word of it is a row's number plus 1, or 0 for none. A chain has the rows whose keys have one home, ascending. The rows of a table are numbered on end, from the number of its first row on.
+mod book;
+
+pub use book::build_all;
+pub use book::rows_before;
+pub use book::serves_all;
 ghost use mathlib.Core.Path.{_≡_};
 ghost use mathlib.Core.Bool.{true};
 ghost use Prim.Native.Nat.{_+_, _-_, _*_, _^_, _≤_, _<_};
 ghost use lib.ListN.{length, getD, replicate};
 ghost use Rattle.tables.specs.Tables.{Stands, rowAt, foundRow};
 ghost use Rattle.hash_index.specs.Fold.{spun, mixed};
-ghost use Rattle.hash_index.specs.Index.{homeAt, homeIn, endOf, added, indexed, IndexOf};
+ghost use Rattle.hash_index.specs.Index.{homeAt, homeIn, endOf, added, rowsAdded, indexed, Tails, Has, isRow, IndexAmong, IndexOf};
 use tables::Found;
 use tables::TableInfo;
 
@@ -56,39 +61,59 @@ pub fn add(index: &mut [u32], n: usize, h: usize)
     index[end_of(last, h)] = row;
 }
 
-// All rows of a table, into an index that is zero.
-pub fn build(words: &[u32], info: TableInfo, index: &mut [u32])
-    requires { ⌜ Stands (now words) info × (info .rows ≤ 16384) × (now index ≡ replicate 18432 0) ⌝ }
-    ensures { λ _. ⌜ now (index .exit) ≡ indexed (homeIn (now (words .entry)) info) (info .rows) ⌝ }
+// All rows of a table, numbered from `first` on.
+pub fn add_rows(words: &[u32], info: TableInfo, first: usize, index: &mut [u32])
+    requires { ⌜ Stands (now words) info × (first + info .rows ≤ 16384) × Tails first (now index) ⌝ }
+    ensures { λ _. ⌜ now (index .exit) ≡ rowsAdded (now (words .entry)) info first (info .rows) (now (index .entry)) ⌝ }
 {
     let mut at = info.at;
     let mut i = 0;
     while i < info.rows {
-        add(index, i, home(words, at, info.keys));
+        add(index, first + i, home(words, at, info.keys));
         at += info.width;
         i += 1;
     }
 }
 
-// The word of the row that p tells.
-fn place(info: TableInfo, p: usize) -> usize
-    requires { ⌜ (0 < p) × (p ≤ info .rows) × (info .at + info .rows * info .width < 2 ^ 64) ⌝ }
-    ensures { λ r. ⌜ r ≡ rowAt info (p - 1) ⌝ }
+// All rows of a table alone, into an index that is zero.
+pub fn build(words: &[u32], info: TableInfo, index: &mut [u32])
+    requires { ⌜ Stands (now words) info × (info .rows ≤ 16384) × (now index ≡ replicate 18432 0) ⌝ }
+    ensures { λ _. ⌜ now (index .exit) ≡ indexed (homeIn (now (words .entry)) info) (info .rows) ⌝ }
 {
-    info.at + (p - 1) * info.width
+    add_rows(words, info, 0, index)
+}
+
+// The word of the row that p tells, of a table whose first row has the number `first`.
+fn place(info: TableInfo, first: usize, p: usize) -> usize
+    requires { ⌜ (first < p) × (p ≤ first + info .rows) × (info .at + info .rows * info .width < 2 ^ 64) ⌝ }
+    ensures { λ r. ⌜ r ≡ rowAt info (p - 1 - first) ⌝ }
+{
+    info.at + (p - 1 - first) * info.width
+}
+
+// Whether p tells a row of the table, and it has the key.
+fn is_row(words: &[u32], info: TableInfo, first: usize, p: usize, key: &[u32; 16]) -> bool
+    requires { ⌜ Stands (now words) info × (first + info .rows ≤ 16384) ⌝ }
+    ensures { λ r. ⌜ r ≡ isRow (now (words .entry)) info (now (key .entry)) first p ⌝ }
+{
+    if p <= first {
+        return false;
+    }
+    if first + info.rows < p {
+        return false;
+    }
+    tables::same_words(words, place(info, first, p), key, info.keys)
 }
 
 // The row with the key, as `tables::find` finds it.
-pub fn find(words: &[u32], index: &[u32], info: TableInfo, key: &[u32; 16]) -> Found
-    requires { ⌜ Stands (now words) info × (info .rows ≤ 16384) × (now index ≡ indexed (homeIn (now words) info) (info .rows)) ⌝ }
+fn find(words: &[u32], index: &[u32], info: TableInfo, first: usize, key: &[u32; 16]) -> Found
+    requires { ⌜ Stands (now words) info × Has (now words) info first (now index) ⌝ }
     ensures { λ r. ⌜ r ≡ foundRow (now (words .entry)) info (now (key .entry)) ⌝ }
 {
-    let k = info.keys;
-    let mut p = words::size(index[home(key, 0, k)]);
+    let mut p = words::size(index[home(key, 0, info.keys)]);
     while p != 0 {
-        let at = place(info, p);
-        if tables::same_words(words, at, key, k) {
-            return Found::At(at);
+        if is_row(words, info, first, p, key) {
+            return Found::At(place(info, first, p));
         }
         p = words::size(index[2047 + p]);
     }
@@ -96,14 +121,28 @@ pub fn find(words: &[u32], index: &[u32], info: TableInfo, key: &[u32; 16]) -> F
 }
 
 // The same, where an empty index is none, and all rows are looked at.
-pub fn look_up(words: &[u32], index: &[u32], info: TableInfo, key: &[u32; 16]) -> Found
-    requires { ⌜ Stands (now words) info × IndexOf (now words) info (now index) ⌝ }
+pub fn look_up_among(
+    words: &[u32],
+    index: &[u32],
+    info: TableInfo,
+    first: usize,
+    key: &[u32; 16],
+) -> Found
+    requires { ⌜ Stands (now words) info × IndexAmong (now words) info first (now index) ⌝ }
     ensures { λ r. ⌜ r ≡ foundRow (now (words .entry)) info (now (key .entry)) ⌝ }
 {
     if index.len() == 0 {
         return tables::find(words, info, key);
     }
-    find(words, index, info, key)
+    find(words, index, info, first, key)
+}
+
+// The same of a table that has the index alone.
+pub fn look_up(words: &[u32], index: &[u32], info: TableInfo, key: &[u32; 16]) -> Found
+    requires { ⌜ Stands (now words) info × IndexOf (now words) info (now index) ⌝ }
+    ensures { λ r. ⌜ r ≡ foundRow (now (words .entry)) info (now (key .entry)) ⌝ }
+{
+    look_up_among(words, index, info, 0, key)
 }
 
 // Whether a table has rows enough for an index to be of use, and no more than it has links for.

@@ -58,6 +58,14 @@ pub fn info_of(words: &[u32], t: ids::TableId) -> TableInfo
     info_at(words, size_at(words, 2 + 3 * words::size(t.0)))
 }
 
+// How many rows it has.
+pub fn rows_of(words: &[u32], t: ids::TableId) -> usize
+    ensures { λ r. ⌜ (r ≡ infoOf (now (words .entry)) (t .0) .rows) × (r < 4294967296) ⌝ }
+{
+    let body = size_at(words, 2 + 3 * words::size(t.0));
+    size_at(words, body + 3)
+}
+
 // The first k words of a row.
 pub fn key_of(row: &[u32], k: usize) -> [u32; 16]
     requires { ⌜ (k ≤ length (now row)) × (k ≤ 16) ⌝ }

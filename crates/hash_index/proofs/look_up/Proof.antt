@@ -1,19 +1,16 @@
-use Rattle.model.specs.Laws.Logic.{either}
+use denote.Ref.{now}
+use Rattle.hash_index.specs.BookLaws.{among-alone}
 use borrow.Author.Needs.{needs}
 use Rattle.hash_index.proofs.look_up.Statement.{statement}
 use Rattle.hash_index.proofs.look_up.Tie as tie
 
-find-requires : tie.Need-find-requires
-find-requires c κs = search needs
+look-up-among-requires : tie.Need-look-up-among-requires
+look-up-among-requires c κs =
+    let a = c .before .before .args in
+    (c .before .before .pre .0, among-alone (now (a .words)) (a .info) (now (a .index)) (c .before .before .pre .1))
 
 returns : tie.Need-returns
 returns c = search needs
 
-find-requires-2 : tie.Need-find-requires-2
-find-requires-2 c κs = let p = c .before .before .before .pre in either (λ e. absurd (c .if1 .left e)) (λ q. (p .0, q .0, q .1)) (p .1)
-
-returns-2 : tie.Need-returns-2
-returns-2 c = search needs
-
 pub look-up-spec : {M : Type 1} → statement M
-look-up-spec = tie.close (tie.spec find-requires returns find-requires-2 returns-2)
+look-up-spec = tie.close (tie.spec look-up-among-requires returns)

@@ -8,18 +8,21 @@ use Rattle.hash_index.proofs.place.Tie as tie
 sub-result : tie.Need-sub-result
 sub-result c = search needs
 
+sub-result-2 : tie.Need-sub-result-2
+sub-result-2 c = search needs
+
 mul-result : tie.Need-mul-result
 mul-result c =
     let a = c .before .args in
-    omega (arith, row-within (a .p - 1) (a .info .rows) (a .info .width) (omega arith), c .before .pre)
+    omega (arith, row-within (a .p - 1 - a .first) (a .info .rows) (a .info .width) (omega arith), c .before .pre)
 
 add-result : tie.Need-add-result
 add-result c =
     let a = c .before .before .args in
-    omega (arith, row-within (a .p - 1) (a .info .rows) (a .info .width) (omega arith), c .before .before .pre)
+    omega (arith, row-within (a .p - 1 - a .first) (a .info .rows) (a .info .width) (omega arith), c .before .before .pre)
 
 returns : tie.Need-returns
 returns c = search needs
 
 pub place-spec : {M : Type 1} → statement M
-place-spec = tie.close (tie.spec sub-result mul-result add-result returns)
+place-spec = tie.close (tie.spec sub-result sub-result-2 mul-result add-result returns)

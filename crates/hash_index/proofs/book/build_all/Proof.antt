@@ -1,0 +1,82 @@
+use Prim.Native.Nat.{ℕ, _-_, _≤_}
+use mathlib.Core.Path.{_≡_, refl, sym, ap, _∙_}
+use native.Mathlib.Numerals.{add-one}
+use native.Mathlib.Omega.{arith}
+use denote.Ref.{now}
+use lib.ListN.{length, length-replicate}
+use Rattle.tables.specs.declared.TableInfo.{TableInfo}
+use Rattle.hash_index.specs.Book.{rowsBefore, bookIndexed}
+use Rattle.hash_index.specs.BookLaws.{before-within, book-tails}
+use borrow.Author.Needs.{needs}
+use Rattle.hash_index.proofs.book.build_all.Statement.{statement}
+use Rattle.hash_index.proofs.book.build_all.Tie as tie
+
+abbrev Inv-loop : tie.InvT-loop
+Inv-loop words n index₀ first₀ t₀ index first t = (t ≤ n) × (first ≡ rowsBefore words t) × (index ≡ bookIndexed words t)
+
+abbrev μ-loop : tie.MeasureT-loop
+μ-loop words n index₀ first₀ t₀ index first t = n - t
+
+loop-holds : tie.Need-loop-holds Inv-loop μ-loop
+unfolding rowsBefore bookIndexed
+loop-holds c = (search needs, refl, c .before .before .pre .3)
+
+cast-t8 : tie.Need-cast-t8 Inv-loop μ-loop
+cast-t8 c = search needs
+
+info-of-requires : tie.Need-info-of-requires Inv-loop μ-loop
+info-of-requires c κs = search needs
+
+add-rows-requires : tie.Need-add-rows-requires Inv-loop μ-loop
+add-rows-requires c κs =
+    let w = now (c .before .before .before .before .before .before .args .words) in
+    let l = c .before .before .before .loop in
+    let i = c .before .info-of .ensures in
+    let m = before-within w (c .before .before .before .before .before .before .args .n) (l .t) (c .before .before .loop-test .taken) in
+    (rw i (c .before .before .before .before .before .before .pre .1 (l .t) (c .before .before .loop-test .taken)), rw (i, l .inv .1) (omega (arith, m, c .before .before .before .before .before .before .pre .2)), rw (l .inv .1, l .inv .2) (book-tails w (l .t)))
+
+add-first : tie.Need-add-first Inv-loop μ-loop
+add-first c =
+    let w = now (c .before .before .before .before .before .before .before .before .before .before .args .words) in
+    let l = c .before .before .before .before .before .before .before .loop in
+    omega (arith, before-within w (c .before .before .before .before .before .before .before .before .before .before .args .n) (l .t) (c .before .before .before .before .before .before .loop-test .taken), c .before .before .before .before .before .before .before .before .before .before .pre .2, l .inv .1, ap (λ (i : TableInfo). i .rows) (c .before .before .before .before .before .info-of .ensures))
+
+add-t : tie.Need-add-t Inv-loop μ-loop
+add-t c = search needs
+
+loop-less : tie.Need-loop-less Inv-loop μ-loop
+loop-less c = search needs
+
+loop-again : tie.Need-loop-again Inv-loop μ-loop
+unfolding rowsBefore bookIndexed
+loop-again c =
+    let w = now (c .before .before .before .before .before .before .before .before .before .before .args .words) in
+    let l = c .before .before .before .before .before .before .before .loop in
+    let i = c .before .before .before .before .before .info-of .ensures in
+    (search needs, rw (i, l .inv .1, add-one), rw add-one (c .before .before .before .add-rows .ensures ∙ rw (i, l .inv .1, l .inv .2)))
+
+same-length : tie.Need-same-length Inv-loop μ-loop
+same-length c = let l = c .before .loop in ap length (l .inv .2) ∙ book-tails (now (c .before .before .before .before .args .words)) (l .t) .size ∙ sym (ap length (c .before .before .before .before .pre .3) ∙ length-replicate {A = ℕ} 18432 0)
+
+returns : tie.Need-returns Inv-loop μ-loop
+returns c =
+    let l = c .before .loop in
+    let e : l .t ≡ c .before .before .before .before .args .n = omega arith in
+    rw e at (l .inv .2)
+
+pub build-all-spec : {M : Type 1} → statement M
+build-all-spec =
+    tie.close
+    (tie.spec
+    Inv-loop
+    μ-loop
+    loop-holds
+    cast-t8
+    info-of-requires
+    add-rows-requires
+    add-first
+    add-t
+    loop-less
+    loop-again
+    same-length
+    returns)

@@ -1,0 +1,49 @@
+// The rows of all tables of a book in one index: those of a table are numbered past those of the tables before it.
+ghost use mathlib.Core.Path.{_≡_};
+ghost use mathlib.Core.Bool.{true};
+ghost use Prim.Native.Nat.{ℕ, _≤_, _<_};
+ghost use lib.ListN.{replicate};
+ghost use Rattle.tables.specs.Tables.{infoOf, Stands};
+ghost use Rattle.hash_index.specs.Book.{rowsBefore, bookIndexed};
+use ids::TableId;
+
+// How many rows the tables before a table have: the number of its first row.
+pub fn rows_before(words: &[u32], table: TableId) -> usize
+    ensures { λ r. ⌜ r ≡ rowsBefore (now (words .entry)) (table .0) ⌝ }
+{
+    let n = table.0;
+    let mut rows = 0;
+    let mut t = 0;
+    while t < n {
+        rows += tables::rows_of(words, TableId(t));
+        t += 1;
+    }
+    rows
+}
+
+// All rows of the first n tables, into an index that is zero.
+pub fn build_all(words: &[u32], n: usize, index: &mut [u32])
+    requires { ⌜ (n ≤ 16) × ((t : ℕ) → t < n → Stands (now words) (infoOf (now words) t)) × (rowsBefore (now words) n ≤ 16384) × (now index ≡ replicate 18432 0) ⌝ }
+    ensures { λ _. ⌜ now (index .exit) ≡ bookIndexed (now (words .entry)) n ⌝ }
+{
+    let mut first = 0;
+    let mut t = 0;
+    while t < n {
+        let info = tables::info_of(words, TableId(t as u32));
+        crate::add_rows(words, info, first, index);
+        first += info.rows;
+        t += 1;
+    }
+}
+
+// Whether the first n tables have rows enough for an index to be of use, and no more than it has links for.
+pub fn serves_all(words: &[u32], n: usize) -> bool
+    requires { ⌜ n ≤ 16 ⌝ }
+    ensures { λ r. ⌜ (r ≡ true → rowsBefore (now (words .entry)) n ≤ 16384) ⌝ }
+{
+    let rows = rows_before(words, TableId(n as u32));
+    if rows < 32 {
+        return false;
+    }
+    rows <= 16384
+}
