@@ -7,6 +7,7 @@ use Rattle.ids.specs.declared.TableId.{TableId}
 use Rattle.ids.specs.declared.ColumnId.{ColumnId}
 use Rattle.mask.specs.Masks.{firstLanes, united, without}
 use Rattle.tables.specs.Tables.{infoOf}
+use Rattle.hash_index.specs.Book.{rowsBefore}
 use Rattle.instr.specs.declared.QueryEntry.the-variants.{Const}
 use Rattle.instr.specs.declared.Entries.{Entries}
 use Rattle.instr.specs.declared.Instr.{Instr}
@@ -40,7 +41,7 @@ withServed s l = record { live = l .live; state = s .state; log = s .log; index 
 
 -- a column of the committed row of table t
 abbrev pub rowAsk : List ℕ → TableId → Entries → ColumnId → Ask
-rowAsk w t key col = AskRow (infoOf w (t .0)) key col
+rowAsk w t key col = AskRow (infoOf w (t .0)) (rowsBefore w (t .0)) key col
 
 -- the predicted row that a lane asks for
 abbrev pub asking : List ℕ → TableId → Entries → Entries → ColumnId → Asking

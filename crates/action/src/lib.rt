@@ -1,4 +1,4 @@
-// The interpreter: the instructions of a rule act on the lanes of a batch, one after the other.
+// The interpreter: the instructions of a rule act on the lanes of a batch, one after the other. An index of the book's rows is lent as `committed`, or an empty one for none.
 mod lookup;
 
 use bound::Bound;
@@ -14,9 +14,9 @@ use mask::Mask;
 ghost use mathlib.Core.Path.{_≡_};
 ghost use Prim.Native.Nat.{_+_, _≤_, _<_};
 ghost use lib.ListN.{length, getD};
-ghost use Rattle.model.specs.Book.Contents.{firstOf, firstRule, ruleCount};
+ghost use Rattle.model.specs.Book.Contents.{firstOf, firstRule, ruleCount, tableCount};
 ghost use Rattle.model.specs.Laws.Book.{Readable};
-ghost use Rattle.mask.specs.Masks.{firstLanes};
+ghost use Rattle.hash_index.specs.Book.{BookIndex};
 ghost use Rattle.bound.specs.Bound.{binding};
 ghost use Rattle.instr.specs.declared.QueryEntry.the-variants.{Const};
 ghost use Rattle.instr.specs.Instr.{instrAt};
@@ -44,6 +44,7 @@ pub struct Acted {
 // A counter's next in every lane of the mask.
 fn read_counter(
     words: &[u32],
+    committed: &[u32],
     bindings: &[u32],
     counter: CounterId,
     mask: Mask,
@@ -57,6 +58,7 @@ fn read_counter(
     let next = counters.read(counter);
     lanes::fill(
         words,
+        committed,
         bindings,
         Ask::Entry(QueryEntry::Const(next)),
         mask,
@@ -67,6 +69,7 @@ fn read_counter(
 // The lanes' part of an instruction; its dst is left in `out`.
 fn act(
     words: &[u32],
+    committed: &[u32],
     bindings: &[u32],
     i: Instr,
     mask: Mask,
@@ -75,7 +78,7 @@ fn act(
     index: &mut [u32],
     out: &mut [u32],
 ) -> Acted
-    requires { ⌜ Readable (now words) × Stands (now words) i × Ready state (now log) (now index) × (length (now out) ≡ 256) ⌝ }
+    requires { ⌜ Readable (now words) × BookIndex (now words) (tableCount (now words)) (now committed) × Stands (now words) i × Ready state (now log) (now index) × (length (now out) ≡ 256) ⌝ }
     ensures is { λ r. ⌜ _≡_ {A = Lanes} (record { live = r .mask .live; state = r .state; log = now (log .exit); index = now (index .exit); out = now (out .exit) }) (acted (now (words .entry)) (now (bindings .entry)) i (record { live = mask .live; state = state; log = now (log .entry); index = now (index .entry); out = now (out .entry) })) ⌝ }
     ensures fits { λ r. ⌜ r .state .used ≤ length (now (log .entry)) ⌝ }
 {
@@ -90,6 +93,7 @@ fn act(
             mask,
             state: lookup::lookup_or_insert_default(
                 words,
+                committed,
                 bindings,
                 table,
                 args,
@@ -111,6 +115,7 @@ fn act(
         } => Acted {
             mask: lookup::fill_or_else(
                 words,
+                committed,
                 bindings,
                 lookup::row_ask(words, table, args, dst_col),
                 Ask::Entry(default),
@@ -127,7 +132,7 @@ fn act(
         } => {
             let ask = lookup::row_ask(words, table, args, dst_col);
             Acted {
-                mask: lanes::fill(words, bindings, ask, mask, out),
+                mask: lanes::fill(words, committed, bindings, ask, mask, out),
                 state,
             }
         }
@@ -141,6 +146,7 @@ fn act(
         } => Acted {
             mask: lookup::fill_or_else(
                 words,
+                committed,
                 bindings,
                 lookup::row_ask(words, table, table_key, dst_col),
                 Ask::External {
@@ -198,7 +204,14 @@ fn act(
             ),
         },
         Instr::External { func, args, .. } => Acted {
-            mask: lanes::fill(words, bindings, Ask::External { func, args }, mask, out),
+            mask: lanes::fill(
+                words,
+                committed,
+                bindings,
+                Ask::External { func, args },
+                mask,
+                out,
+            ),
             state,
         },
         Instr::ExternalWithFallback {
@@ -210,6 +223,7 @@ fn act(
         } => Acted {
             mask: lookup::fill_or_else(
                 words,
+                committed,
                 bindings,
                 Ask::External {
                     func: f1,
@@ -239,7 +253,7 @@ fn act(
         Instr::ReadCounter { counter, .. } => {
             // Dead lanes too have the counter's next in dst.
             let every = Mask::new(256);
-            read_counter(words, bindings, counter, every, state, out);
+            read_counter(words, committed, bindings, counter, every, state, out);
             Acted { mask, state }
         }
     }
@@ -269,13 +283,14 @@ fn bind_variable(dst: Dst, bound: Bound) -> Bound
 // One instruction: its lanes' part, and its dst bound.
 fn run_instr(
     words: &[u32],
+    committed: &[u32],
     i: Instr,
     batch: Batch,
     bindings: &mut [u32],
     log: &mut [u32],
     index: &mut [u32],
 ) -> Batch
-    requires { ⌜ Readable (now words) × Stands (now words) i × Ready (batch .state) (now log) (now index) × (length (now bindings) ≡ 8192) ⌝ }
+    requires { ⌜ Readable (now words) × BookIndex (now words) (tableCount (now words)) (now committed) × Stands (now words) i × Ready (batch .state) (now log) (now index) × (length (now bindings) ≡ 8192) ⌝ }
     ensures is { λ r. ⌜ _≡_ {A = Running} (record { batch = r; bindings = now (bindings .exit); log = now (log .exit); index = now (index .exit) }) (ranInstr (now (words .entry)) i (record { batch = batch; bindings = now (bindings .entry); log = now (log .entry); index = now (index .entry) })) ⌝ }
     ensures fits { λ r. ⌜ r .state .used ≤ length (now (log .entry)) ⌝ }
 {
@@ -284,7 +299,17 @@ fn run_instr(
     let bound = batch.bound;
     let state = batch.state;
     let mut out = [4294967295u32; 256];
-    let acted = act(words, bindings, i, mask, state, log, index, &mut out);
+    let acted = act(
+        words,
+        committed,
+        bindings,
+        i,
+        mask,
+        state,
+        log,
+        index,
+        &mut out,
+    );
     let left = acted.mask;
     let after = acted.state;
     let dst = i.dst();
@@ -300,13 +325,14 @@ fn run_instr(
 // The instruction whose opcode stands at p, if a lane is live and the run goes on.
 fn run_next(
     words: &[u32],
+    committed: &[u32],
     p: usize,
     batch: Batch,
     bindings: &mut [u32],
     log: &mut [u32],
     index: &mut [u32],
 ) -> Batch
-    requires { ⌜ Readable (now words) × (p ≤ 16384) × Stands (now words) (instrAt (now words) p) × Ready (batch .state) (now log) (now index) × (length (now bindings) ≡ 8192) ⌝ }
+    requires { ⌜ Readable (now words) × BookIndex (now words) (tableCount (now words)) (now committed) × (p ≤ 16384) × Stands (now words) (instrAt (now words) p) × Ready (batch .state) (now log) (now index) × (length (now bindings) ≡ 8192) ⌝ }
     ensures is { λ r. ⌜ _≡_ {A = Running} (record { batch = r; bindings = now (bindings .exit); log = now (log .exit); index = now (index .exit) }) (ranNext (now (words .entry)) p (record { batch = batch; bindings = now (bindings .entry); log = now (log .entry); index = now (index .entry) })) ⌝ }
     ensures fits { λ r. ⌜ r .state .used ≤ length (now (log .entry)) ⌝ }
 {
@@ -315,6 +341,7 @@ fn run_next(
     if state.going() & !mask.is_empty() {
         return run_instr(
             words,
+            committed,
             instr::instr_at(words, p),
             batch,
             bindings,
@@ -328,6 +355,7 @@ fn run_next(
 // The instructions of rule r, in order. The rules' first entry in the contents is `base`.
 pub fn run_instrs(
     words: &[u32],
+    committed: &[u32],
     base: usize,
     r: usize,
     start: Batch,
@@ -335,7 +363,7 @@ pub fn run_instrs(
     log: &mut [u32],
     index: &mut [u32],
 ) -> Batch
-    requires { ⌜ Readable (now words) × (base ≡ firstRule (now words)) × (r < ruleCount (now words)) × Ready (start .state) (now log) (now index) × (length (now bindings) ≡ 8192) ⌝ }
+    requires { ⌜ Readable (now words) × BookIndex (now words) (tableCount (now words)) (now committed) × (base ≡ firstRule (now words)) × (r < ruleCount (now words)) × Ready (start .state) (now log) (now index) × (length (now bindings) ≡ 8192) ⌝ }
     ensures is { λ b. ⌜ _≡_ {A = Running} (record { batch = b; bindings = now (bindings .exit); log = now (log .exit); index = now (index .exit) }) (ranInstrs (now (words .entry)) (firstOf (now (words .entry)) (base + r)) (getD (now (words .entry)) (firstOf (now (words .entry)) (base + r) + 1) 0) (record { batch = start; bindings = now (bindings .entry); log = now (log .entry); index = now (index .entry) })) ⌝ }
     ensures fits { λ b. ⌜ b .state .used ≤ length (now (log .entry)) ⌝ }
 {
@@ -345,7 +373,7 @@ pub fn run_instrs(
     let mut p = first + 2;
     let mut j = 0;
     while j < n {
-        batch = run_next(words, p, batch, bindings, log, index);
+        batch = run_next(words, committed, p, batch, bindings, log, index);
         p = instr::next(words, p);
         j += 1;
     }

@@ -13,7 +13,8 @@ ghost use lib.ListN.{length};
 ghost use Rattle.model.specs.Book.Contents.{tableCount};
 ghost use Rattle.model.specs.Laws.Book.{Readable};
 ghost use Rattle.instr.specs.Stands.{Short};
-ghost use Rattle.lanes.specs.Lanes.{AskFits};
+ghost use Rattle.hash_index.specs.Book.{BookIndex};
+ghost use Rattle.lanes.specs.Lanes.{AskFits, IndexFor};
 ghost use Rattle.predict.specs.Predict.{Ready};
 ghost use Rattle.action.specs.Act.{Lanes, rowAsk, eitherLanes, eitherWords, serving};
 
@@ -23,6 +24,7 @@ pub fn row_ask(words: &[u32], table: TableId, key: Entries, col: ColumnId) -> As
 {
     Ask::Lookup {
         table: tables::info_of(words, table),
+        first: hash_index::rows_before(words, table),
         key,
         col,
     }
@@ -31,25 +33,27 @@ pub fn row_ask(words: &[u32], table: TableId, key: Entries, col: ColumnId) -> As
 // Each lane of the mask asks, and asks otherwise if it is not answered; the lanes that were answered.
 pub fn fill_or_else(
     words: &[u32],
+    committed: &[u32],
     bindings: &[u32],
     ask: Ask,
     other: Ask,
     mask: Mask,
     out: &mut [u32],
 ) -> Mask
-    requires { ⌜ AskFits (now words) ask × AskFits (now words) other × (length (now out) ≡ 256) ⌝ }
+    requires { ⌜ AskFits (now words) ask × IndexFor (now words) ask (now committed) × AskFits (now words) other × IndexFor (now words) other (now committed) × (length (now out) ≡ 256) ⌝ }
     ensures words { λ r. ⌜ now (out .exit) ≡ eitherWords (now (words .entry)) (now (bindings .entry)) ask other (mask .live) (now (out .entry)) ⌝ }
     ensures lanes { λ r. ⌜ r .live ≡ eitherLanes (now (words .entry)) (now (bindings .entry)) ask other (mask .live) ⌝ }
 {
-    let found = lanes::fill(words, bindings, ask, mask, out);
+    let found = lanes::fill(words, committed, bindings, ask, mask, out);
     let missed = mask.difference(found);
-    let served = lanes::fill(words, bindings, other, missed, out);
+    let served = lanes::fill(words, committed, bindings, other, missed, out);
     found.union(served)
 }
 
 // A column of the committed row, else of the predicted row, which is made where there is none.
 pub fn lookup_or_insert_default(
     words: &[u32],
+    committed: &[u32],
     bindings: &[u32],
     table: TableId,
     args: Entries,
@@ -61,12 +65,12 @@ pub fn lookup_or_insert_default(
     index: &mut [u32],
     out: &mut [u32],
 ) -> ExecutionState
-    requires { ⌜ Readable (now words) × (table .0 < tableCount (now words)) × Short args × Short default × Ready state (now log) (now index) × (length (now out) ≡ 256) ⌝ }
+    requires { ⌜ Readable (now words) × BookIndex (now words) (tableCount (now words)) (now committed) × (table .0 < tableCount (now words)) × Short args × Short default × Ready state (now log) (now index) × (length (now out) ≡ 256) ⌝ }
     ensures is { λ r. ⌜ _≡_ {A = Lanes} (record { live = mask .live; state = r; log = now (log .exit); index = now (index .exit); out = now (out .exit) }) (serving (now (words .entry)) (now (bindings .entry)) table args default col (record { live = mask .live; state = state; log = now (log .entry); index = now (index .entry); out = now (out .entry) })) ⌝ }
     ensures fits { λ r. ⌜ r .used ≤ length (now (log .entry)) ⌝ }
 {
     let ask = row_ask(words, table, args, col);
-    let found = lanes::fill(words, bindings, ask, mask, out);
+    let found = lanes::fill(words, committed, bindings, ask, mask, out);
     let info = tables::info_of(words, table);
     predict::serve_lanes(
         words,

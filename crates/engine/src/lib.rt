@@ -75,11 +75,13 @@ fn run_book(
     ensures { λ r. ⌜ Concludes (now (words .entry)) (lentOf (now (bindings .entry)) (now (index .entry)) (now (log .entry)) (now (tables .entry)) (now (answer .entry))) r (now (answer .exit)) ⌝ }
 {
     let z = contents::sizes_of(words);
-    let base = words::size(z.tables) + words::size(z.counters);
+    let count = words::size(z.tables);
+    let base = count + words::size(z.counters);
     let first = base + words::size(z.rules);
     let steps = words::size(z.steps);
     let p = run::run_steps(
         words,
+        count,
         base,
         first,
         steps,
@@ -89,7 +91,7 @@ fn run_book(
         index,
         answer,
     );
-    end::conclude(words, first, words::size(z.tables), p, log, tables, answer)
+    end::conclude(words, first, count, p, log, tables, answer)
 }
 
 // A book that refusal 1 passes, loaded into `words`: refusals 2 to 11, and then its run.

@@ -1,7 +1,6 @@
 -- What the code of the passes leans on.
 use Prim.Native.Nat.{ℕ, zero, suc, _+_, _-_, _≤_, _<_, min}
 use mathlib.Core.Path.{_≡_, refl, sym, ap, _∙_}
-use mathlib.Core.Logic.{inl}
 use mathlib.Core.Bool.{true, false}
 use mathlib.Core.List.{List, [], _∷_}
 use native.Mathlib.Omega.{arith}
@@ -17,19 +16,11 @@ use Rattle.tables.specs.declared.Found.{Found}
 use Rattle.tables.specs.declared.Found.the-variants.{At, Nothing}
 use Rattle.tables.specs.Tables.{Stands, foundRow}
 use Rattle.tables.specs.TablesLaws.{found-within}
-use Rattle.lanes.specs.declared.Ask.{Ask}
-use Rattle.lanes.specs.declared.Ask.the-variants.{Lookup, External, Entry}
-use Rattle.lanes.specs.Lanes.{Begins, IndexFor}
+use Rattle.lanes.specs.Lanes.{Begins}
 
 pub begins : (w : List ℕ) (t : TableInfo) (key : List ℕ) (row : Found) → Stands w t → row ≡ foundRow w t key → Begins w row
 begins w t key (At p) s e = omega (arith, found-within w t key p (sym e), s .rows)
 begins w t key Nothing s e = tt
-
--- an empty index is none, whatever is asked
-pub no-index : (w : List ℕ) (ask : Ask) (index : List ℕ) → length index ≡ 0 → IndexFor w ask index
-no-index w (Lookup table key col) index e = inl e
-no-index w (External func args) index e = tt
-no-index w (Entry x) index e = tt
 
 -- ## Pairs of two lists
 

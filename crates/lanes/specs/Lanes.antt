@@ -17,7 +17,7 @@ use Rattle.instr.specs.Stands.{Short}
 use Rattle.tables.specs.declared.Found.{Found}
 use Rattle.tables.specs.declared.Found.the-variants.{At, Nothing}
 use Rattle.tables.specs.Tables.{Stands, foundRow}
-use Rattle.hash_index.specs.Index.{IndexOf}
+use Rattle.hash_index.specs.Index.{IndexAmong}
 use Rattle.lanes.specs.declared.Ask.{Ask}
 use Rattle.lanes.specs.declared.Ask.the-variants.{Lookup, External, Entry}
 use Rattle.lanes.specs.declared.Test.{Test}
@@ -39,7 +39,7 @@ module _ (w m : List ℕ) where
 
   -- what lane i is answered
   unfoldable pub asked : Ask → ℕ → Option ℕ
-  asked (Lookup table key col) i = columnOf w (col .0) (foundRow w table (listed i key .vals))
+  asked (Lookup table first key col) i = columnOf w (col .0) (foundRow w table (listed i key .vals))
   asked (External func args) i = apply (func .0) (asList (listed i args))
   asked (Entry e) i = some (wordOf m i (entryOf e))
 
@@ -51,13 +51,13 @@ module _ (w m : List ℕ) where
 
 -- what the code may suppose: a table stands in the words, a list is short
 abbrev pub AskFits : List ℕ → Ask → Type 0
-AskFits w (Lookup table key col) = Stands w table × Short key
+AskFits w (Lookup table first key col) = Stands w table × Short key
 AskFits w (External func args) = Short args
 AskFits w (Entry e) = Unit {0}
 
--- the index of the table that is asked, or none
+-- an index that has the rows of the table that is asked, or none
 abbrev pub IndexFor : List ℕ → Ask → List ℕ → Type 0
-IndexFor w (Lookup table key col) index = IndexOf w table index
+IndexFor w (Lookup table first key col) index = IndexAmong w table first index
 IndexFor w (External func args) index = Unit {0}
 IndexFor w (Entry e) index = Unit {0}
 

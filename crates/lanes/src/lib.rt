@@ -1,4 +1,4 @@
-// The passes over the lanes of a batch that only read: what each live lane is answered, and which lanes pass a test.
+// The passes over the lanes of a batch that only read: what each live lane is answered, and which lanes pass a test. An index of the book's rows may be lent as `committed`; an empty one is none.
 use args::Args;
 use functions::Answer;
 use ids::ColumnId;
@@ -10,7 +10,7 @@ use mask::Mask;
 use tables::Found;
 use tables::TableInfo;
 ghost use mathlib.Core.Path.{_≡_};
-ghost use mathlib.Core.Bool.{true, false, _&&_};
+ghost use mathlib.Core.Bool.{false, _&&_};
 ghost use Prim.Native.Nat.{_+_, _*_, _≤_, _<_, min};
 ghost use lib.ListN.{length, getD, take, drop};
 ghost use Rattle.model.specs.Basics.{only};
@@ -20,14 +20,13 @@ ghost use Rattle.functions.specs.Answers.{answerOf};
 ghost use Rattle.bindings.specs.Columns.{wordOf};
 ghost use Rattle.instr.specs.Meaning.{entryOf};
 ghost use Rattle.instr.specs.Stands.{Short};
-ghost use Rattle.tables.specs.Tables.{Stands};
-ghost use Rattle.lanes.specs.declared.Ask.the-variants.{Lookup};
 ghost use Rattle.lanes.specs.Lanes.{listed, Begins, columnOf, asked, AskFits, IndexFor, holds, TestFits, isSome, orElse, answeredLanes, answeredWords, kept};
 
-// What a lane asks for: a column of the committed row with a key, what a function answers, or what an entry stands for.
+// What a lane asks for: a column of the committed row with a key, what a function answers, or what an entry stands for. The table's first row has the number `first` among the rows of all tables.
 pub enum Ask {
     Lookup {
         table: TableInfo,
+        first: usize,
         key: Entries,
         col: ColumnId,
     },
@@ -75,15 +74,21 @@ fn column(words: &[u32], row: Found, col: ColumnId) -> Answer
 }
 
 // What a lane is answered.
-fn answer(words: &[u32], bindings: &[u32], index: &[u32], ask: Ask, lane: Lane) -> Answer
-    requires { ⌜ AskFits (now words) ask × IndexFor (now words) ask (now index) ⌝ }
+fn answer(words: &[u32], committed: &[u32], bindings: &[u32], ask: Ask, lane: Lane) -> Answer
+    requires { ⌜ AskFits (now words) ask × IndexFor (now words) ask (now committed) ⌝ }
     ensures { λ r. ⌜ answerOf r ≡ asked (now (words .entry)) (now (bindings .entry)) ask (lane .0) ⌝ }
 {
     match ask {
-        Ask::Lookup { table, key, col } => {
+        Ask::Lookup {
+            table,
+            first,
+            key,
+            col,
+        } => {
             let args = fetch(words, bindings, key, lane);
             let vals = args.vals;
-            column(words, hash_index::look_up(words, index, table, &vals), col)
+            let row = hash_index::look_up_among(words, committed, table, first, &vals);
+            column(words, row, col)
         }
         Ask::External { func, args } => functions::invoke(func, fetch(words, bindings, args, lane)),
         Ask::Entry(e) => Answer::Word(value(bindings, e, lane)),
@@ -93,17 +98,17 @@ fn answer(words: &[u32], bindings: &[u32], index: &[u32], ask: Ask, lane: Lane) 
 // What a lane is answered; a lane that is not live is not asked.
 fn answer_live(
     words: &[u32],
+    committed: &[u32],
     bindings: &[u32],
-    index: &[u32],
     ask: Ask,
     live: bool,
     lane: Lane,
 ) -> Answer
-    requires { ⌜ AskFits (now words) ask × IndexFor (now words) ask (now index) ⌝ }
+    requires { ⌜ AskFits (now words) ask × IndexFor (now words) ask (now committed) ⌝ }
     ensures { λ r. ⌜ answerOf r ≡ only live (asked (now (words .entry)) (now (bindings .entry)) ask (lane .0)) ⌝ }
 {
     if live {
-        return answer(words, bindings, index, ask, lane);
+        return answer(words, committed, bindings, ask, lane);
     }
     Answer::Nothing
 }
@@ -127,96 +132,27 @@ fn word_or(a: Answer, other: u32) -> u32
 }
 
 // Each lane of the mask that is answered has its word in `out`; the lanes that were.
-fn fill_by(
+pub fn fill(
     words: &[u32],
+    committed: &[u32],
     bindings: &[u32],
-    index: &[u32],
     ask: Ask,
     mask: Mask,
     out: &mut [u32],
 ) -> Mask
-    requires { ⌜ AskFits (now words) ask × IndexFor (now words) ask (now index) × (length (now out) ≡ 256) ⌝ }
+    requires { ⌜ AskFits (now words) ask × IndexFor (now words) ask (now committed) × (length (now out) ≡ 256) ⌝ }
     ensures lanes { λ r. ⌜ r .live ≡ answeredLanes (asked (now (words .entry)) (now (bindings .entry)) ask) (mask .live) ⌝ }
     ensures words { λ r. ⌜ now (out .exit) ≡ answeredWords (asked (now (words .entry)) (now (bindings .entry)) ask) (mask .live) (now (out .entry)) ⌝ }
 {
     let mut found = Mask::new(0);
     let mut i = 0;
     while i < 256 {
-        let given = answer_live(words, bindings, index, ask, mask.live[i], Lane(i));
+        let given = answer_live(words, committed, bindings, ask, mask.live[i], Lane(i));
         out[i] = word_or(given, out[i]);
         found.live[i] = is_word(given);
         i += 1;
     }
     found
-}
-
-// The same of a lookup, by an index that is made for it.
-fn fill_indexed(
-    words: &[u32],
-    bindings: &[u32],
-    table: TableInfo,
-    key: Entries,
-    col: ColumnId,
-    mask: Mask,
-    out: &mut [u32],
-) -> Mask
-    requires { ⌜ Stands (now words) table × Short key × (table .rows ≤ 16384) × (length (now out) ≡ 256) ⌝ }
-    ensures lanes { λ r. ⌜ r .live ≡ answeredLanes (asked (now (words .entry)) (now (bindings .entry)) (Lookup table key col)) (mask .live) ⌝ }
-    ensures words { λ r. ⌜ now (out .exit) ≡ answeredWords (asked (now (words .entry)) (now (bindings .entry)) (Lookup table key col)) (mask .live) (now (out .entry)) ⌝ }
-{
-    let mut index = [0u32; 18432];
-    hash_index::build(words, table, &mut index);
-    fill_by(
-        words,
-        bindings,
-        &index,
-        Ask::Lookup { table, key, col },
-        mask,
-        out,
-    )
-}
-
-// Whether an index of the table is sooner made than the lanes of the mask have looked at its rows.
-fn is_worth_it(table: TableInfo, mask: Mask) -> bool
-    ensures { λ r. ⌜ (r ≡ true → table .rows ≤ 16384) ⌝ }
-{
-    if hash_index::serves(table) {
-        return 8 < mask.count();
-    }
-    false
-}
-
-// The same of any lookup.
-fn fill_rows(
-    words: &[u32],
-    bindings: &[u32],
-    table: TableInfo,
-    key: Entries,
-    col: ColumnId,
-    mask: Mask,
-    out: &mut [u32],
-) -> Mask
-    requires { ⌜ Stands (now words) table × Short key × (length (now out) ≡ 256) ⌝ }
-    ensures lanes { λ r. ⌜ r .live ≡ answeredLanes (asked (now (words .entry)) (now (bindings .entry)) (Lookup table key col)) (mask .live) ⌝ }
-    ensures words { λ r. ⌜ now (out .exit) ≡ answeredWords (asked (now (words .entry)) (now (bindings .entry)) (Lookup table key col)) (mask .live) (now (out .entry)) ⌝ }
-{
-    if is_worth_it(table, mask) {
-        return fill_indexed(words, bindings, table, key, col, mask, out);
-    }
-    let ask = Ask::Lookup { table, key, col };
-    fill_by(words, bindings, &words[..0], ask, mask, out)
-}
-
-// Each lane of the mask that is answered has its word in `out`; the lanes that were.
-pub fn fill(words: &[u32], bindings: &[u32], ask: Ask, mask: Mask, out: &mut [u32]) -> Mask
-    requires { ⌜ AskFits (now words) ask × (length (now out) ≡ 256) ⌝ }
-    ensures lanes { λ r. ⌜ r .live ≡ answeredLanes (asked (now (words .entry)) (now (bindings .entry)) ask) (mask .live) ⌝ }
-    ensures words { λ r. ⌜ now (out .exit) ≡ answeredWords (asked (now (words .entry)) (now (bindings .entry)) ask) (mask .live) (now (out .entry)) ⌝ }
-{
-    match ask {
-        Ask::Lookup { table, key, col } => fill_rows(words, bindings, table, key, col, mask, out),
-        _ => fill_by(words, bindings, &words[..0], ask, mask, out),
-    }
 }
 
 fn least(a: usize, b: usize) -> usize

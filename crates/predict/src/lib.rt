@@ -15,6 +15,8 @@ ghost use mathlib.Core.Path.{_≡_};
 ghost use Prim.Native.Nat.{_≤_, _<_};
 ghost use lib.ListN.{length};
 ghost use Rattle.tables.specs.Tables.{Stands};
+ghost use Rattle.hash_index.specs.Index.{IndexAmong};
+ghost use Rattle.hash_index.specs.Book.{rowsBefore};
 ghost use Rattle.instr.specs.Stands.{Short};
 ghost use Rattle.predict.specs.Predict.{RowFits, Ready, Gotten, stoppedBy, inserted, gotten, takenWord, Served, servedLane, servedLanes, ofLog, Answered, answered};
 
@@ -195,9 +197,10 @@ pub fn serve_lanes(
     s
 }
 
-// The committed row of the key, else the predicted row, else a new one, which sets the changed flag.
+// The committed row of the key, else the predicted row, else a new one, which sets the changed flag. An index of the committed rows is lent, or an empty one for none.
 pub fn predict_val(
     words: &[u32],
+    committed: &[u32],
     bindings: &[u32],
     info: TableInfo,
     row: Row,
@@ -206,12 +209,13 @@ pub fn predict_val(
     log: &mut [u32],
     index: &mut [u32],
 ) -> Prediction
-    requires { ⌜ Stands (now words) info × RowFits row × (key .count ≤ 16) × Ready s (now log) (now index) ⌝ }
+    requires { ⌜ Stands (now words) info × IndexAmong (now words) info (rowsBefore (now words) (row .table .0)) (now committed) × RowFits row × (key .count ≤ 16) × Ready s (now log) (now index) ⌝ }
     ensures is { λ r. ⌜ _≡_ {A = Answered} (record { prediction = r; log = now (log .exit); index = now (index .exit) }) (answered (now (words .entry)) (now (bindings .entry)) info row key (record { state = s; log = now (log .entry); index = now (index .entry) })) ⌝ }
     ensures fits { λ r. ⌜ r .state .used ≤ length (now (log .entry)) ⌝ }
 {
     let vals = key.vals;
-    match tables::find(words, info, &vals) {
+    let first = hash_index::rows_before(words, row.table);
+    match hash_index::look_up_among(words, committed, info, first, &vals) {
         Found::At(p) => Prediction {
             place: Place::InTable(p),
             made: false,

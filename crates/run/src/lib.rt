@@ -6,8 +6,9 @@ ghost use mathlib.Core.Path.{_≡_};
 ghost use Prim.Native.Nat.{_+_, _-_, _≤_, _<_};
 ghost use lib.Dec.{leb};
 ghost use lib.ListN.{length};
-ghost use Rattle.model.specs.Book.Contents.{firstOf, firstRule, firstStep, kindOf, stepCount};
+ghost use Rattle.model.specs.Book.Contents.{firstOf, firstRule, firstStep, kindOf, stepCount, tableCount};
 ghost use Rattle.model.specs.Laws.Book.{Readable};
+ghost use Rattle.hash_index.specs.Book.{rowsBefore, BookIndex};
 ghost use Rattle.predict.specs.Predict.{Ready};
 ghost use Rattle.steps.specs.Steps.{IsStep};
 ghost use Rattle.run.specs.Progress.{Ran, Early, standsIn, advanced, halted, batchStep, predictionStep, ranNext, ranSteps};
@@ -70,6 +71,7 @@ fn halt(p: Progress, state: ExecutionState) -> Progress
 // The batch of entry i, and its body.
 fn batch_step(
     words: &[u32],
+    committed: &[u32],
     base: usize,
     i: usize,
     p: Progress,
@@ -78,12 +80,12 @@ fn batch_step(
     index: &mut [u32],
     answer: &mut [u32],
 ) -> Progress
-    requires { ⌜ Readable (now words) × (base ≡ firstRule (now words)) × IsStep (now words) i × (kindOf (now words) i ≡ 4) × Early p × Ready (p .state) (now log) (now index) × (length (now bindings) ≡ 8192) ⌝ }
+    requires { ⌜ Readable (now words) × BookIndex (now words) (tableCount (now words)) (now committed) × (base ≡ firstRule (now words)) × IsStep (now words) i × (kindOf (now words) i ≡ 4) × Early p × Ready (p .state) (now log) (now index) × (length (now bindings) ≡ 8192) ⌝ }
     ensures is { λ r. ⌜ _≡_ {A = Ran} (record { progress = r; bindings = now (bindings .exit); log = now (log .exit); index = now (index .exit); answer = now (answer .exit) }) (batchStep (now (words .entry)) i (record { progress = p; bindings = now (bindings .entry); log = now (log .entry); index = now (index .entry); answer = now (answer .entry) })) ⌝ }
     ensures fits { λ r. ⌜ (r .state .used ≤ length (now (log .entry))) × (r .done ≤ p .done + 1) × (r .at ≤ p .at + 8483) ⌝ }
 {
     let before = p.state;
-    let batch = steps::run_batch(words, base, i, before, bindings, log, index);
+    let batch = steps::run_batch(words, committed, base, i, before, bindings, log, index);
     let state = batch.state;
     if state.going() {
         let bound = batch.bound;
@@ -97,6 +99,7 @@ fn batch_step(
 // The prediction of entry i, and its body.
 fn prediction_step(
     words: &[u32],
+    committed: &[u32],
     i: usize,
     p: Progress,
     bindings: &[u32],
@@ -104,12 +107,12 @@ fn prediction_step(
     index: &mut [u32],
     answer: &mut [u32],
 ) -> Progress
-    requires { ⌜ Readable (now words) × IsStep (now words) i × (kindOf (now words) i ≡ 5) × Early p × Ready (p .state) (now log) (now index) ⌝ }
+    requires { ⌜ Readable (now words) × BookIndex (now words) (tableCount (now words)) (now committed) × IsStep (now words) i × (kindOf (now words) i ≡ 5) × Early p × Ready (p .state) (now log) (now index) ⌝ }
     ensures is { λ r. ⌜ _≡_ {A = Ran} (record { progress = r; bindings = now (bindings .entry); log = now (log .exit); index = now (index .exit); answer = now (answer .exit) }) (predictionStep (now (words .entry)) i (record { progress = p; bindings = now (bindings .entry); log = now (log .entry); index = now (index .entry); answer = now (answer .entry) })) ⌝ }
     ensures fits { λ r. ⌜ (r .state .used ≤ length (now (log .entry))) × (r .done ≤ p .done + 1) × (r .at ≤ p .at + 8483) ⌝ }
 {
     let before = p.state;
-    let row = steps::run_prediction(words, i, before, bindings, log, index);
+    let row = steps::run_prediction(words, committed, i, before, bindings, log, index);
     let state = row.state;
     let place = row.place;
     let table = TableId(words::word(words, contents::first_of(words, i)));
@@ -132,6 +135,7 @@ fn prediction_step(
 // The next step, if the run goes on. The rules' first entry in the contents is `base`, the steps' first is `first`.
 fn run_next(
     words: &[u32],
+    committed: &[u32],
     base: usize,
     first: usize,
     p: Progress,
@@ -140,7 +144,7 @@ fn run_next(
     index: &mut [u32],
     answer: &mut [u32],
 ) -> Progress
-    requires { ⌜ Readable (now words) × (base ≡ firstRule (now words)) × (first ≡ firstStep (now words)) × (p .done < stepCount (now words)) × Early p × Ready (p .state) (now log) (now index) × (length (now bindings) ≡ 8192) ⌝ }
+    requires { ⌜ Readable (now words) × BookIndex (now words) (tableCount (now words)) (now committed) × (base ≡ firstRule (now words)) × (first ≡ firstStep (now words)) × (p .done < stepCount (now words)) × Early p × Ready (p .state) (now log) (now index) × (length (now bindings) ≡ 8192) ⌝ }
     ensures is { λ r. ⌜ _≡_ {A = Ran} (record { progress = r; bindings = now (bindings .exit); log = now (log .exit); index = now (index .exit); answer = now (answer .exit) }) (ranNext (now (words .entry)) (record { progress = p; bindings = now (bindings .entry); log = now (log .entry); index = now (index .entry); answer = now (answer .entry) })) ⌝ }
     ensures fits { λ r. ⌜ (r .state .used ≤ length (now (log .entry))) × (r .done ≤ p .done + 1) × (r .at ≤ p .at + 8483) ⌝ }
 {
@@ -148,16 +152,17 @@ fn run_next(
     if state.going() {
         let i = first + p.done;
         if contents::kind_of(words, i) == 4 {
-            return batch_step(words, base, i, p, bindings, log, index, answer);
+            return batch_step(words, committed, base, i, p, bindings, log, index, answer);
         }
-        return prediction_step(words, i, p, bindings, log, index, answer);
+        return prediction_step(words, committed, i, p, bindings, log, index, answer);
     }
     p
 }
 
-// All steps, from a fresh execution state with these counters.
-pub fn run_steps(
+// All steps, from a fresh execution state with these counters. An index of the book's rows is lent, or an empty one for none.
+fn run_by(
     words: &[u32],
+    committed: &[u32],
     base: usize,
     first: usize,
     steps: usize,
@@ -167,15 +172,103 @@ pub fn run_steps(
     index: &mut [u32],
     answer: &mut [u32],
 ) -> Progress
-    requires { ⌜ Readable (now words) × (base ≡ firstRule (now words)) × (first ≡ firstStep (now words)) × (steps ≡ stepCount (now words)) × (start .done ≡ 0) × (start .at ≡ 0) × Ready (start .state) (now log) (now index) × (length (now bindings) ≡ 8192) ⌝ }
+    requires { ⌜ Readable (now words) × BookIndex (now words) (tableCount (now words)) (now committed) × (base ≡ firstRule (now words)) × (first ≡ firstStep (now words)) × (steps ≡ stepCount (now words)) × (start .done ≡ 0) × (start .at ≡ 0) × Ready (start .state) (now log) (now index) × (length (now bindings) ≡ 8192) ⌝ }
     ensures is { λ r. ⌜ _≡_ {A = Ran} (record { progress = r; bindings = now (bindings .exit); log = now (log .exit); index = now (index .exit); answer = now (answer .exit) }) (ranSteps (now (words .entry)) steps (record { progress = start; bindings = now (bindings .entry); log = now (log .entry); index = now (index .entry); answer = now (answer .entry) })) ⌝ }
     ensures fits { λ r. ⌜ (r .state .used ≤ length (now (log .entry))) × (r .done ≤ 64) × (r .at ≤ 1048576) ⌝ }
 {
     let mut p = start;
     let mut k = 0;
     while k < steps {
-        p = run_next(words, base, first, p, bindings, log, index, answer);
+        p = run_next(
+            words,
+            committed,
+            base,
+            first,
+            p,
+            bindings,
+            log,
+            index,
+            answer,
+        );
         k += 1;
     }
     p
+}
+
+// The same, by an index that is made for it.
+fn run_indexed(
+    words: &[u32],
+    tables: usize,
+    base: usize,
+    first: usize,
+    steps: usize,
+    start: Progress,
+    bindings: &mut [u32],
+    log: &mut [u32],
+    index: &mut [u32],
+    answer: &mut [u32],
+) -> Progress
+    requires { ⌜ Readable (now words) × (tables ≡ tableCount (now words)) × (rowsBefore (now words) tables ≤ 16384) × (base ≡ firstRule (now words)) × (first ≡ firstStep (now words)) × (steps ≡ stepCount (now words)) × (start .done ≡ 0) × (start .at ≡ 0) × Ready (start .state) (now log) (now index) × (length (now bindings) ≡ 8192) ⌝ }
+    ensures is { λ r. ⌜ _≡_ {A = Ran} (record { progress = r; bindings = now (bindings .exit); log = now (log .exit); index = now (index .exit); answer = now (answer .exit) }) (ranSteps (now (words .entry)) steps (record { progress = start; bindings = now (bindings .entry); log = now (log .entry); index = now (index .entry); answer = now (answer .entry) })) ⌝ }
+    ensures fits { λ r. ⌜ (r .state .used ≤ length (now (log .entry))) × (r .done ≤ 64) × (r .at ≤ 1048576) ⌝ }
+{
+    let mut committed = [0u32; 18432];
+    hash_index::build_all(words, tables, &mut committed);
+    run_by(
+        words,
+        &committed,
+        base,
+        first,
+        steps,
+        start,
+        bindings,
+        log,
+        index,
+        answer,
+    )
+}
+
+// The same, by an index or by none.
+pub fn run_steps(
+    words: &[u32],
+    tables: usize,
+    base: usize,
+    first: usize,
+    steps: usize,
+    start: Progress,
+    bindings: &mut [u32],
+    log: &mut [u32],
+    index: &mut [u32],
+    answer: &mut [u32],
+) -> Progress
+    requires { ⌜ Readable (now words) × (tables ≡ tableCount (now words)) × (base ≡ firstRule (now words)) × (first ≡ firstStep (now words)) × (steps ≡ stepCount (now words)) × (start .done ≡ 0) × (start .at ≡ 0) × Ready (start .state) (now log) (now index) × (length (now bindings) ≡ 8192) ⌝ }
+    ensures is { λ r. ⌜ _≡_ {A = Ran} (record { progress = r; bindings = now (bindings .exit); log = now (log .exit); index = now (index .exit); answer = now (answer .exit) }) (ranSteps (now (words .entry)) steps (record { progress = start; bindings = now (bindings .entry); log = now (log .entry); index = now (index .entry); answer = now (answer .entry) })) ⌝ }
+    ensures fits { λ r. ⌜ (r .state .used ≤ length (now (log .entry))) × (r .done ≤ 64) × (r .at ≤ 1048576) ⌝ }
+{
+    if hash_index::serves_all(words, tables) {
+        return run_indexed(
+            words,
+            tables,
+            base,
+            first,
+            steps,
+            start,
+            bindings,
+            log,
+            index,
+            answer,
+        );
+    }
+    run_by(
+        words,
+        &words[..0],
+        base,
+        first,
+        steps,
+        start,
+        bindings,
+        log,
+        index,
+        answer,
+    )
 }

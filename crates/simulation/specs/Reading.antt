@@ -24,11 +24,13 @@ use Rattle.instr.specs.declared.QueryEntry.{QueryEntry}
 use Rattle.instr.specs.declared.Instr.the-variants as instr
 use Rattle.instr.specs.Meaning.{entryOf, entriesOf, instrOf}
 use Rattle.instr.specs.Stands.{Short}
+use Rattle.hash_index.specs.Book.{rowsBefore}
 use Rattle.lanes.specs.declared.Ask.{Ask}
 use Rattle.lanes.specs.declared.Ask.the-variants.{Lookup, External, Entry}
 use Rattle.lanes.specs.declared.Test.{Test}
 use Rattle.lanes.specs.declared.Test.the-variants.{Eq, Ne, AnyNe}
 use Rattle.mask.specs.Masks.{padded, united, without}
+use Rattle.action.specs.Act.{rowAsk}
 use Rattle.lanes.specs.Lanes.{asked, holds, answeredLanes, answeredWords, kept}
 use Rattle.simulation.specs.Turns.{Answers, lookup-does, invoke-does, default-does, eq-does, ne-does, any-ne-does}
 use Rattle.simulation.specs.Passes.{noWords, missedLanes, Start, Ends, Waits, drop-pass, default-pass, test-pass, first-pass, fallback-pass}
@@ -80,7 +82,7 @@ module _ (w : List ℕ) (room : ℕ → Bool) (k j : ℕ) (s : State) (start : S
   abbrev call : ℕ → (Bindings → Bindings) → ExternalFunctionId → Entries → ℕ → (State → State) → State → State
   call c held func args i miss = invoke E (here k j i) c held (func .0) (entriesOf w args) miss
 
-  looks : (t : ℕ) (args : Entries) (col : ColumnId) → t < tableCount w → Reads w args → Answers (s .bindings) (askedIn w s (Lookup (infoOf w t) args col)) (look t args col)
+  looks : (t : ℕ) (args : Entries) (col : ColumnId) → t < tableCount w → Reads w args → Answers (s .bindings) (askedIn w s (Lookup (infoOf w t) (rowsBefore w t) args col)) (look t args col)
   looks t args col l r = lookup-does w room k j t l args col (r .0 .1) (r .1) (s .bindings)
 
   calls : (c : ℕ) (func : ExternalFunctionId) (args : Entries) → Reads w args → Answers (s .bindings) (askedIn w s (External func args)) (call c plain func args)
@@ -92,20 +94,20 @@ module _ (w : List ℕ) (room : ℕ → Bool) (k j : ℕ) (s : State) (start : S
 
   -- 1, before the missed lanes are served
   pub lookup-first : (table : TableId) (args : Entries) (col : ColumnId) → table .0 < tableCount w → Reads w args
-      → EndsWaiting w s (lanes (λ i. lookup E (here k j i) (table .0) (entriesOf w args) (col .0) wait) s) (Lookup (infoOf w (table .0)) args col)
+      → EndsWaiting w s (lanes (λ i. lookup E (here k j i) (table .0) (entriesOf w args) (col .0) wait) s) (rowAsk w table args col)
   lookup-first table args col l r = first-pass s start _ (look (table .0) args col) (looks (table .0) args col l r)
 
   -- 2
   pub lookup-default : (table : TableId) (args : Entries) (col : ColumnId) (dst : Variable) (e : QueryEntry) → table .0 < tableCount w → Reads w args → Named (entryOf e)
-      → EndsGiven w s (body E k j (instrOf w (instr.LookupWithDefault table args col dst e)) s) (Lookup (infoOf w (table .0)) args col) (Entry e)
+      → EndsGiven w s (body E k j (instrOf w (instr.LookupWithDefault table args col dst e)) s) (rowAsk w table args col) (Entry e)
   unfolding body instrOf asked
   lookup-default table args col dst e l r n =
-      default-pass s start (askedIn w s (Lookup (infoOf w (table .0)) args col)) (λ i. wordOf (columnsOf (s .bindings)) i (entryOf e)) (look (table .0) args col) (λ i. takeDefault (here k j i) (entryOf e))
+      default-pass s start (askedIn w s (rowAsk w table args col)) (λ i. wordOf (columnsOf (s .bindings)) i (entryOf e)) (look (table .0) args col) (λ i. takeDefault (here k j i) (entryOf e))
       (looks (table .0) args col l r) (default-does w room k j (s .bindings) e n)
 
   -- 3
   pub lookup-drop : (table : TableId) (args : Entries) (col : ColumnId) (dst : Variable) → table .0 < tableCount w → Reads w args
-      → EndsAsked w s (body E k j (instrOf w (instr.Lookup table args col dst)) s) (Lookup (infoOf w (table .0)) args col)
+      → EndsAsked w s (body E k j (instrOf w (instr.Lookup table args col dst)) s) (rowAsk w table args col)
   unfolding body instrOf
   lookup-drop table args col dst l r = drop-pass s start _ (look (table .0) args col) (looks (table .0) args col l r)
 
@@ -116,7 +118,7 @@ module _ (w : List ℕ) (room : ℕ → Bool) (k j : ℕ) (s : State) (start : S
 
   -- 4
   pub lookup-fallback : (table : TableId) (key : Entries) (func : ExternalFunctionId) (args : Entries) (col : ColumnId) (dst : Variable) → table .0 < tableCount w → Reads w key → Reads w args
-      → EndsTwice w s (body E k j (instrOf w (instr.LookupWithFallback table key func args col dst)) s) (Lookup (infoOf w (table .0)) key col) (External func args)
+      → EndsTwice w s (body E k j (instrOf w (instr.LookupWithFallback table key func args col dst)) s) (rowAsk w table key col) (External func args)
   unfolding body instrOf
   lookup-fallback table key func args col dst l r q = fallback-pass s start _ _ (look (table .0) key col) (call 0 (hold (dst .0)) func args) (looks (table .0) key col l r) (calls-held 0 (dst .0) func args q)
 

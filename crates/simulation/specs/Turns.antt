@@ -37,6 +37,7 @@ use Rattle.instr.specs.declared.Entries.{Entries}
 use Rattle.instr.specs.declared.QueryEntry.{QueryEntry}
 use Rattle.instr.specs.Meaning.{entryOf, entriesOf}
 use Rattle.lanes.specs.Lanes.{listed, columnOf, asked, holds}
+use Rattle.hash_index.specs.Book.{rowsBefore}
 use Rattle.lanes.specs.declared.Ask.the-variants.{Lookup, External}
 use Rattle.lanes.specs.declared.Test.the-variants.{Eq, Ne, AnyNe}
 
@@ -149,12 +150,12 @@ module _ (w : List ℕ) (room : ℕ → Bool) (k j : ℕ) where
         let q = rw (table-is w t l) at e in
         rw (table-is w t l, ← key-is w b i h key short named (readTable w (firstOf w t) .keys) ks q) (find-model w (firstOf w t) (listed w (columnsOf b) i key .vals))
 
-    pub lookup-does : (b : Bindings) → Answers b (asked w (columnsOf b) (Lookup (infoOf w t) key col)) (λ i miss. lookup E (here k j i) t (entriesOf w key) (col .0) miss)
+    pub lookup-does : (b : Bindings) → Answers b (asked w (columnsOf b) (Lookup (infoOf w t) (rowsBefore w t) key col)) (λ i miss. lookup E (here k j i) t (entriesOf w key) (col .0) miss)
     unfolding lookup asked
     lookup-does b i s miss e h same d =
-        subst (λ (b : Bindings). Does (effect e (asked w (columnsOf b) (Lookup (infoOf w t) key col) i)) i s (lookup E (here k j i) t (entriesOf w key) (col .0) miss s)) same
-        (need-ind (Does (effect e (asked w (columnsOf (s .bindings)) (Lookup (infoOf w t) key col) i)) i s) (listOf (s .bindings) i (tableOf E t .keys) (entriesOf w key)) s _ (inl refl)
-        (λ ks q. subst (λ (o : Option (List ℕ)). Does (effect e (asked w (columnsOf (s .bindings)) (Lookup (infoOf w t) key col) i)) i s (taken i s ks (col .0) miss e (d (note (reads (here k j i) ks) s) same) o)) (sym (find-is (s .bindings) i h ks q))
+        subst (λ (b : Bindings). Does (effect e (asked w (columnsOf b) (Lookup (infoOf w t) (rowsBefore w t) key col) i)) i s (lookup E (here k j i) t (entriesOf w key) (col .0) miss s)) same
+        (need-ind (Does (effect e (asked w (columnsOf (s .bindings)) (Lookup (infoOf w t) (rowsBefore w t) key col) i)) i s) (listOf (s .bindings) i (tableOf E t .keys) (entriesOf w key)) s _ (inl refl)
+        (λ ks q. subst (λ (o : Option (List ℕ)). Does (effect e (asked w (columnsOf (s .bindings)) (Lookup (infoOf w t) (rowsBefore w t) key col) i)) i s (taken i s ks (col .0) miss e (d (note (reads (here k j i) ks) s) same) o)) (sym (find-is (s .bindings) i h ks q))
         (taken-does i s ks (col .0) miss e (d (note (reads (here k j i) ks) s) same) (infoOf w t .width) (foundRow w (infoOf w t) (listed w (columnsOf (s .bindings)) i key .vals)))))
 
   -- ## What is called

@@ -4,13 +4,16 @@ use mathlib.Core.Path.{_≡_, refl, sym, subst}
 use mathlib.Core.List.{List}
 use native.Mathlib.Omega.{arith}
 use lib.ListN.{length, getD}
-use Rattle.model.specs.Book.Contents.{firstOf, endOf, kindOf, firstStep}
+use Rattle.model.specs.Book.Contents.{firstOf, endOf, kindOf, firstStep, tableCount}
 use Rattle.model.specs.Book.Read.{sizes}
 use Rattle.model.specs.Laws.Book.{Readable, step-entry}
 use Rattle.model.specs.Laws.Contents.{Inside}
 use Rattle.model.specs.Laws.Scan.{BatchWords, PredictionWords}
 use Rattle.model.specs.Laws.Kinds.{ok, step-inside, batch-read, prediction-read}
 use Rattle.tables.specs.Tables.{Stands, infoOf}
+use Rattle.hash_index.specs.Index.{IndexAmong}
+use Rattle.hash_index.specs.Book.{rowsBefore, BookIndex}
+use Rattle.hash_index.specs.BookLaws.{book-has}
 use Rattle.predict.specs.Predict.{RowFits}
 use Rattle.action.specs.ActLaws.{table-stands}
 use Rattle.steps.specs.Steps.{IsStep, laneCount, rowOf}
@@ -56,6 +59,9 @@ module _ {w : List ℕ} (h : Readable w) {i : ℕ} (s : IsStep w i) where
 
     pub table-here : Stands w (infoOf w (getD w at 0))
     table-here = table-stands w h (getD w at 0) (prediction-facts .table)
+
+    pub index-here : {index : List ℕ} → BookIndex w (tableCount w) index → IndexAmong w (infoOf w (getD w at 0)) (rowsBefore w (getD w at 0)) index
+    index-here {index} b = book-has w (tableCount w) index b (getD w at 0) (prediction-facts .table)
 
     pub row-fits : RowFits (rowOf w at)
     row-fits = ((omega (arith, writes-within, h .most), prediction-facts .vals), table-here .few)

@@ -1,4 +1,4 @@
-// The two kinds of step: a batch runs its rule, a prediction asks for a row.
+// The two kinds of step: a batch runs its rule, a prediction asks for a row. An index of the book's rows is lent as `committed`, or an empty one for none.
 use action::Batch;
 use args::Args;
 use bound::Bound;
@@ -10,8 +10,9 @@ use predict::Row;
 ghost use mathlib.Core.Path.{_≡_};
 ghost use Prim.Native.Nat.{_+_, _*_, _≤_, _<_};
 ghost use lib.ListN.{length};
-ghost use Rattle.model.specs.Book.Contents.{endOf, firstOf, firstRule, kindOf};
+ghost use Rattle.model.specs.Book.Contents.{endOf, firstOf, firstRule, kindOf, tableCount};
 ghost use Rattle.model.specs.Laws.Book.{Readable};
+ghost use Rattle.hash_index.specs.Book.{BookIndex};
 ghost use Rattle.predict.specs.Predict.{Ready, Answered};
 ghost use Rattle.action.specs.Run.{Running};
 ghost use Rattle.steps.specs.Steps.{IsStep, laneCount, ranBatch, askedRow};
@@ -26,6 +27,7 @@ fn lane_count(v: u32, lanes: usize) -> usize
 // The batch of entry i: its own columns, all lanes live, and then its rule. The rules' first entry in the contents is `base`.
 pub fn run_batch(
     words: &[u32],
+    committed: &[u32],
     base: usize,
     i: usize,
     state: ExecutionState,
@@ -33,7 +35,7 @@ pub fn run_batch(
     log: &mut [u32],
     index: &mut [u32],
 ) -> Batch
-    requires { ⌜ Readable (now words) × (base ≡ firstRule (now words)) × IsStep (now words) i × (kindOf (now words) i ≡ 4) × Ready state (now log) (now index) × (length (now bindings) ≡ 8192) ⌝ }
+    requires { ⌜ Readable (now words) × BookIndex (now words) (tableCount (now words)) (now committed) × (base ≡ firstRule (now words)) × IsStep (now words) i × (kindOf (now words) i ≡ 4) × Ready state (now log) (now index) × (length (now bindings) ≡ 8192) ⌝ }
     ensures is { λ r. ⌜ _≡_ {A = Running} (record { batch = r; bindings = now (bindings .exit); log = now (log .exit); index = now (index .exit) }) (ranBatch (now (words .entry)) (firstOf (now (words .entry)) i) state (now (log .entry)) (now (index .entry))) ⌝ }
     ensures fits { λ r. ⌜ r .state .used ≤ length (now (log .entry)) ⌝ }
 {
@@ -50,19 +52,20 @@ pub fn run_batch(
         bound: Bound::first(words::size(v)),
         state,
     };
-    action::run_instrs(words, base, rule, start, bindings, log, index)
+    action::run_instrs(words, committed, base, rule, start, bindings, log, index)
 }
 
 // The prediction of entry i. Its write values are constants and counters, so what the bindings hold does not matter.
 pub fn run_prediction(
     words: &[u32],
+    committed: &[u32],
     i: usize,
     state: ExecutionState,
     bindings: &[u32],
     log: &mut [u32],
     index: &mut [u32],
 ) -> Prediction
-    requires { ⌜ Readable (now words) × IsStep (now words) i × (kindOf (now words) i ≡ 5) × Ready state (now log) (now index) ⌝ }
+    requires { ⌜ Readable (now words) × BookIndex (now words) (tableCount (now words)) (now committed) × IsStep (now words) i × (kindOf (now words) i ≡ 5) × Ready state (now log) (now index) ⌝ }
     ensures is { λ r. ⌜ _≡_ {A = Answered} (record { prediction = r; log = now (log .exit); index = now (index .exit) }) (askedRow (now (words .entry)) (now (bindings .entry)) (firstOf (now (words .entry)) i) state (now (log .entry)) (now (index .entry))) ⌝ }
     ensures fits { λ r. ⌜ r .state .used ≤ length (now (log .entry)) ⌝ }
 {
@@ -77,5 +80,15 @@ pub fn run_prediction(
         keys: info.keys,
         vals,
     };
-    predict::predict_val(words, bindings, info, row, key, state, log, index)
+    predict::predict_val(
+        words,
+        committed,
+        bindings,
+        info,
+        row,
+        key,
+        state,
+        log,
+        index,
+    )
 }

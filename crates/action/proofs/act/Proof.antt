@@ -1,5 +1,7 @@
 use mathlib.Core.Path.{ap}
 use denote.Ref.{now}
+use Rattle.model.specs.Book.Contents.{tableCount}
+use Rattle.hash_index.specs.BookLaws.{book-has}
 use Rattle.execution.specs.Execution.{Logged}
 use Rattle.action.specs.Act.{Lanes, withLog, acted}
 use Rattle.action.specs.ActLaws.{table-stands}
@@ -12,9 +14,9 @@ enum-known-i c = search needs
 
 lookup-or-insert-default-requires : tie.Need-lookup-or-insert-default-requires
 lookup-or-insert-default-requires c κs =
-    let p = c .before .before .before .before .before .before .before .before .before .before .before .pre in
-    let s = rw (c .before .before .before .before .i .given .1) at (p .1) in
-    (p .0, s .0, s .1, s .2, p .2, p .3)
+    let p = c .before .before .before .before .before .before .before .before .before .before .before .before .pre in
+    let s = rw (c .before .before .before .before .i .given .1) at (p .2) in
+    (p .0, p .1, s .0, s .1, s .2, p .3, p .4)
 
 enum-known-i-2 : tie.Need-enum-known-i-2
 enum-known-i-2 c = search needs
@@ -24,10 +26,10 @@ row-ask-requires c κs = search needs
 
 fill-or-else-requires : tie.Need-fill-or-else-requires
 fill-or-else-requires c κs =
-    let a = c .before .before .before .before .before .before .before .before .before .before .args in
-    let p = c .before .before .before .before .before .before .before .before .before .before .pre in
-    let s = rw (c .before .before .before .i2 .given .1) at (p .1) in
-    rw (c .before .row-ask .ensures) ((table-stands (now (a .words)) (p .0) _ (s .0), s .1), tt, p .3)
+    let a = c .before .before .before .before .before .before .before .before .before .before .before .args in
+    let p = c .before .before .before .before .before .before .before .before .before .before .before .pre in
+    let s = rw (c .before .before .before .i2 .given .1) at (p .2) in
+    rw (c .before .row-ask .ensures) ((table-stands (now (a .words)) (p .0) _ (s .0), s .1), book-has (now (a .words)) (tableCount (now (a .words))) (now (a .committed)) (p .1) _ (s .0), tt, tt, p .4)
 
 enum-known-i-3 : tie.Need-enum-known-i-3
 enum-known-i-3 c = search needs
@@ -37,10 +39,10 @@ row-ask-requires-2 c κs = search needs
 
 fill-requires : tie.Need-fill-requires
 fill-requires c κs =
-    let a = c .before .before .before .before .before .before .before .before .before .before .args in
-    let p = c .before .before .before .before .before .before .before .before .before .before .pre in
-    let s = rw (c .before .before .before .i3 .given .1) at (p .1) in
-    rw (c .before .row-ask2 .ensures) ((table-stands (now (a .words)) (p .0) _ (s .0), s .1), p .3)
+    let a = c .before .before .before .before .before .before .before .before .before .before .before .args in
+    let p = c .before .before .before .before .before .before .before .before .before .before .before .pre in
+    let s = rw (c .before .before .before .i3 .given .1) at (p .2) in
+    rw (c .before .row-ask2 .ensures) ((table-stands (now (a .words)) (p .0) _ (s .0), s .1), book-has (now (a .words)) (tableCount (now (a .words))) (now (a .committed)) (p .1) _ (s .0), p .4)
 
 enum-known-i-4 : tie.Need-enum-known-i-4
 enum-known-i-4 c = search needs
@@ -50,19 +52,19 @@ row-ask-requires-3 c κs = search needs
 
 fill-or-else-requires-2 : tie.Need-fill-or-else-requires-2
 fill-or-else-requires-2 c κs =
-    let a = c .before .before .before .before .before .before .before .before .before .before .args in
-    let p = c .before .before .before .before .before .before .before .before .before .before .pre in
-    let s = rw (c .before .before .before .i4 .given .1) at (p .1) in
-    rw (c .before .row-ask3 .ensures) ((table-stands (now (a .words)) (p .0) _ (s .0), s .1), s .2, p .3)
+    let a = c .before .before .before .before .before .before .before .before .before .before .before .args in
+    let p = c .before .before .before .before .before .before .before .before .before .before .before .pre in
+    let s = rw (c .before .before .before .i4 .given .1) at (p .2) in
+    rw (c .before .row-ask3 .ensures) ((table-stands (now (a .words)) (p .0) _ (s .0), s .1), book-has (now (a .words)) (tableCount (now (a .words))) (now (a .committed)) (p .1) _ (s .0), s .2, tt, p .4)
 
 enum-known-i-5 : tie.Need-enum-known-i-5
 enum-known-i-5 c = search needs
 
 stage-lanes-requires : tie.Need-stage-lanes-requires
 stage-lanes-requires c κs =
-    let p = c .before .before .before .before .before .before .before .before .before .pre in
-    let s = rw (c .before .before .i5 .given .1) at (p .1) in
-    (s .1, p .2 .used)
+    let p = c .before .before .before .before .before .before .before .before .before .before .pre in
+    let s = rw (c .before .before .i5 .given .1) at (p .2) in
+    (s .1, p .3 .used)
 
 enum-known-i-6 : tie.Need-enum-known-i-6
 enum-known-i-6 c = search needs
@@ -72,36 +74,36 @@ retain-requires c κs = search needs
 
 stage-lanes-requires-2 : tie.Need-stage-lanes-requires-2
 stage-lanes-requires-2 c κs =
-    let p = c .before .before .before .before .before .before .before .before .before .before .pre in
-    let s = rw (c .before .before .before .i6 .given .1) at (p .1) in
-    (s .1, p .2 .used)
+    let p = c .before .before .before .before .before .before .before .before .before .before .before .pre in
+    let s = rw (c .before .before .before .i6 .given .1) at (p .2) in
+    (s .1, p .3 .used)
 
 enum-known-i-7 : tie.Need-enum-known-i-7
 enum-known-i-7 c = search needs
 
 stage-lanes-requires-3 : tie.Need-stage-lanes-requires-3
 stage-lanes-requires-3 c κs =
-    let p = c .before .before .before .before .before .before .before .before .before .pre in
-    let s = rw (c .before .before .i7 .given .1) at (p .1) in
-    (s .1, p .2 .used)
+    let p = c .before .before .before .before .before .before .before .before .before .before .pre in
+    let s = rw (c .before .before .i7 .given .1) at (p .2) in
+    (s .1, p .3 .used)
 
 enum-known-i-8 : tie.Need-enum-known-i-8
 enum-known-i-8 c = search needs
 
 fill-requires-2 : tie.Need-fill-requires-2
 fill-requires-2 c κs =
-    let p = c .before .before .before .before .before .before .before .before .before .pre in
-    let s = rw (c .before .before .i8 .given .1) at (p .1) in
-    (s .0, p .3)
+    let p = c .before .before .before .before .before .before .before .before .before .before .pre in
+    let s = rw (c .before .before .i8 .given .1) at (p .2) in
+    (s .0, tt, p .4)
 
 enum-known-i-9 : tie.Need-enum-known-i-9
 enum-known-i-9 c = search needs
 
 fill-or-else-requires-3 : tie.Need-fill-or-else-requires-3
 fill-or-else-requires-3 c κs =
-    let p = c .before .before .before .before .before .before .before .before .before .pre in
-    let s = rw (c .before .before .i9 .given .1) at (p .1) in
-    (s .0, s .1, p .3)
+    let p = c .before .before .before .before .before .before .before .before .before .before .pre in
+    let s = rw (c .before .before .i9 .given .1) at (p .2) in
+    (s .0, tt, s .1, tt, p .4)
 
 enum-known-i-10 : tie.Need-enum-known-i-10
 enum-known-i-10 c = search needs
@@ -119,7 +121,7 @@ enum-known-i-12 : tie.Need-enum-known-i-12
 enum-known-i-12 c = search needs
 
 retain-requires-4 : tie.Need-retain-requires-4
-retain-requires-4 c κs = rw (c .before .i12 .given .1) at (c .before .before .before .before .before .before .before .before .pre .1)
+retain-requires-4 c κs = rw (c .before .i12 .given .1) at (c .before .before .before .before .before .before .before .before .before .pre .2)
 
 enum-known-i-13 : tie.Need-enum-known-i-13
 enum-known-i-13 c = search needs
@@ -148,21 +150,21 @@ same-length-4 c = search needs
 
 returns-2 : tie.Need-returns-2
 unfolding acted
-returns-2 c = let e = c .before .before .fill-or-else .ensures in (rw (c .before .before .before .before .before .before .i2 .given .1, e .0, e .1, c .before .before .before .before .row-ask .ensures), c .before .before .before .before .before .before .before .before .before .before .before .before .before .pre .2 .used)
+returns-2 c = let e = c .before .before .fill-or-else .ensures in (rw (c .before .before .before .before .before .before .i2 .given .1, e .0, e .1, c .before .before .before .before .row-ask .ensures), c .before .before .before .before .before .before .before .before .before .before .before .before .before .before .pre .3 .used)
 
 same-length-5 : tie.Need-same-length-5
 same-length-5 c = search needs
 
 returns-3 : tie.Need-returns-3
 unfolding acted
-returns-3 c = let e = c .before .before .fill .ensures in (rw (c .before .before .before .before .before .before .i3 .given .1, e .0, e .1, c .before .before .before .before .row-ask2 .ensures), c .before .before .before .before .before .before .before .before .before .before .before .before .before .pre .2 .used)
+returns-3 c = let e = c .before .before .fill .ensures in (rw (c .before .before .before .before .before .before .i3 .given .1, e .0, e .1, c .before .before .before .before .row-ask2 .ensures), c .before .before .before .before .before .before .before .before .before .before .before .before .before .before .pre .3 .used)
 
 same-length-6 : tie.Need-same-length-6
 same-length-6 c = search needs
 
 returns-4 : tie.Need-returns-4
 unfolding acted
-returns-4 c = let e = c .before .before .fill-or-else2 .ensures in (rw (c .before .before .before .before .before .before .i4 .given .1, e .0, e .1, c .before .before .before .before .row-ask3 .ensures), c .before .before .before .before .before .before .before .before .before .before .before .before .before .pre .2 .used)
+returns-4 c = let e = c .before .before .fill-or-else2 .ensures in (rw (c .before .before .before .before .before .before .i4 .given .1, e .0, e .1, c .before .before .before .before .row-ask3 .ensures), c .before .before .before .before .before .before .before .before .before .before .before .before .before .before .pre .3 .used)
 
 same-length-7 : tie.Need-same-length-7
 same-length-7 c = search needs
@@ -170,7 +172,7 @@ same-length-7 c = search needs
 returns-5 : tie.Need-returns-5
 unfolding acted
 returns-5 c =
-    let a = c .before .before .before .before .before .before .before .before .before .before .before .before .args in
+    let a = c .before .before .before .before .before .before .before .before .before .before .before .before .before .args in
     let e = c .before .before .stage-lanes .ensures in
     let l : Lanes = record { live = a .mask .live; state = a .state; log = now (a .log); index = now (a .index); out = now (a .out) } in
     (rw (c .before .before .before .before .before .i5 .given .1) (ap (λ (g : Logged). withLog g l) (e .0)), e .1)
@@ -181,7 +183,7 @@ same-length-8 c = search needs
 returns-6 : tie.Need-returns-6
 unfolding acted
 returns-6 c =
-    let a = c .before .before .before .before .before .before .before .before .before .before .before .before .before .args in
+    let a = c .before .before .before .before .before .before .before .before .before .before .before .before .before .before .args in
     let e = c .before .before .stage-lanes2 .ensures in
     let l : Lanes = record { live = a .mask .live; state = a .state; log = now (a .log); index = now (a .index); out = now (a .out) } in
     (rw (c .before .before .before .before .before .before .i6 .given .1, ← c .before .before .before .before .retain .ensures) (ap (λ (g : Logged). withLog g l) (e .0)), e .1)
@@ -192,7 +194,7 @@ same-length-9 c = search needs
 returns-7 : tie.Need-returns-7
 unfolding acted
 returns-7 c =
-    let a = c .before .before .before .before .before .before .before .before .before .before .before .before .args in
+    let a = c .before .before .before .before .before .before .before .before .before .before .before .before .before .args in
     let e = c .before .before .stage-lanes3 .ensures in
     let l : Lanes = record { live = a .mask .live; state = a .state; log = now (a .log); index = now (a .index); out = now (a .out) } in
     (rw (c .before .before .before .before .before .i7 .given .1) (ap (λ (g : Logged). withLog g l) (e .0)), e .1)
@@ -202,33 +204,33 @@ same-length-10 c = search needs
 
 returns-8 : tie.Need-returns-8
 unfolding acted
-returns-8 c = let e = c .before .before .fill2 .ensures in (rw (c .before .before .before .before .before .i8 .given .1, e .0, e .1), c .before .before .before .before .before .before .before .before .before .before .before .before .pre .2 .used)
+returns-8 c = let e = c .before .before .fill2 .ensures in (rw (c .before .before .before .before .before .i8 .given .1, e .0, e .1), c .before .before .before .before .before .before .before .before .before .before .before .before .before .pre .3 .used)
 
 same-length-11 : tie.Need-same-length-11
 same-length-11 c = search needs
 
 returns-9 : tie.Need-returns-9
 unfolding acted
-returns-9 c = let e = c .before .before .fill-or-else3 .ensures in (rw (c .before .before .before .before .before .i9 .given .1, e .0, e .1), c .before .before .before .before .before .before .before .before .before .before .before .before .pre .2 .used)
+returns-9 c = let e = c .before .before .fill-or-else3 .ensures in (rw (c .before .before .before .before .before .i9 .given .1, e .0, e .1), c .before .before .before .before .before .before .before .before .before .before .before .before .before .pre .3 .used)
 
 returns-10 : tie.Need-returns-10
 unfolding acted
-returns-10 c = (rw (c .before .before .i10 .given .1, c .retain2 .ensures), c .before .before .before .before .before .before .before .before .before .pre .2 .used)
+returns-10 c = (rw (c .before .before .i10 .given .1, c .retain2 .ensures), c .before .before .before .before .before .before .before .before .before .before .pre .3 .used)
 
 returns-11 : tie.Need-returns-11
 unfolding acted
-returns-11 c = (rw (c .before .before .i11 .given .1, c .retain3 .ensures), c .before .before .before .before .before .before .before .before .before .pre .2 .used)
+returns-11 c = (rw (c .before .before .i11 .given .1, c .retain3 .ensures), c .before .before .before .before .before .before .before .before .before .before .pre .3 .used)
 
 returns-12 : tie.Need-returns-12
 unfolding acted
-returns-12 c = (rw (c .before .before .i12 .given .1, c .retain4 .ensures), c .before .before .before .before .before .before .before .before .before .pre .2 .used)
+returns-12 c = (rw (c .before .before .i12 .given .1, c .retain4 .ensures), c .before .before .before .before .before .before .before .before .before .before .pre .3 .used)
 
 same-length-12 : tie.Need-same-length-12
 same-length-12 c = search needs
 
 returns-13 : tie.Need-returns-13
 unfolding acted
-returns-13 c = (rw (c .before .before .before .before .before .before .i13 .given .1, c .before .before .read-counter .ensures, c .before .before .before .before .new .ensures), c .before .before .before .before .before .before .before .before .before .before .before .before .before .pre .2 .used)
+returns-13 c = (rw (c .before .before .before .before .before .before .i13 .given .1, c .before .before .read-counter .ensures, c .before .before .before .before .new .ensures), c .before .before .before .before .before .before .before .before .before .before .before .before .before .before .pre .3 .used)
 
 pub act-spec : {M : Type 1} → statement M
 act-spec =

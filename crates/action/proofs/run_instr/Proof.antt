@@ -22,15 +22,15 @@ slice-aggregate-bind-column c = search needs
 
 bind-column-requires : tie.Need-bind-column-requires
 bind-column-requires c κs =
-    let a = c .before .before .before .before .before .before .before .before .before .before .before .before .before .before .before .before .before .before .before .before .before .before .args in
-    let p = c .before .before .before .before .before .before .before .before .before .before .before .before .before .before .before .before .before .before .before .before .before .before .pre in
-    (rw (c .before .before .dst .ensures) (binds-variable (now (a .words)) (a .i) (p .1)), p .3)
+    let a = c .before .before .before .before .before .before .before .before .before .before .before .before .before .before .before .before .before .before .before .before .before .before .before .args in
+    let p = c .before .before .before .before .before .before .before .before .before .before .before .before .before .before .before .before .before .before .before .before .before .before .before .pre in
+    (rw (c .before .before .dst .ensures) (binds-variable (now (a .words)) (a .i) (p .2)), p .4)
 
 bind-variable-requires : tie.Need-bind-variable-requires
 bind-variable-requires c κs =
-    let a = c .before .before .before .before .before .before .before .before .before .before .before .before .before .before .before .before .before .before .before .before .before .before .before .before .before .args in
-    let p = c .before .before .before .before .before .before .before .before .before .before .before .before .before .before .before .before .before .before .before .before .before .before .before .before .before .pre in
-    rw (c .before .before .before .before .before .dst .ensures) (binds-variable (now (a .words)) (a .i) (p .1))
+    let a = c .before .before .before .before .before .before .before .before .before .before .before .before .before .before .before .before .before .before .before .before .before .before .before .before .before .before .args in
+    let p = c .before .before .before .before .before .before .before .before .before .before .before .before .before .before .before .before .before .before .before .before .before .before .before .before .before .before .pre in
+    rw (c .before .before .before .before .before .dst .ensures) (binds-variable (now (a .words)) (a .i) (p .2))
 
 same-length : tie.Need-same-length
 same-length c = search needs
@@ -44,7 +44,7 @@ same-length-3 c = search needs
 returns : tie.Need-returns
 unfolding ranInstr
 returns c =
-    let a = c .before .before .before .before .before .before .before .before .before .before .before .before .before .before .before .before .before .before .before .before .before .before .before .before .before .before .args in
+    let a = c .before .before .before .before .before .before .before .before .before .before .before .before .before .before .before .before .before .before .before .before .before .before .before .before .before .before .before .args in
     let e = c .before .before .before .before .before .before .before .before .before .before .before .before .before .before .act .ensures in
     let r : Running = record { batch = a .batch; bindings = now (a .bindings); log = now (a .log); index = now (a .index) } in
     (rw (c .bind-variable .ensures, c .before .before .before .bind-column .ensures, c .before .before .before .before .before .before .dst .ensures) (ap (λ (l : Lanes). finished (bindsOf (a .i)) l r) (e .0)), e .1)

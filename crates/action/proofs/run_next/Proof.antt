@@ -17,7 +17,7 @@ instr-at-requires : tie.Need-instr-at-requires
 instr-at-requires c κs = search needs
 
 run-instr-requires : tie.Need-run-instr-requires
-run-instr-requires c κs = let p = c .before .before .before .before .before .before .before .before .before .before .before .before .before .pre in (p .0, rw (c .before .before .before .instr-at .ensures) (p .2), p .3, p .4)
+run-instr-requires c κs = let p = c .before .before .before .before .before .before .before .before .before .before .before .before .before .before .pre in (p .0, p .1, rw (c .before .before .before .instr-at .ensures) (p .3), p .4, p .5)
 
 same-length : tie.Need-same-length
 same-length c = search needs
@@ -31,7 +31,7 @@ same-length-3 c = search needs
 returns : tie.Need-returns
 unfolding ranNext
 returns c =
-    let a = c .before .before .before .before .before .before .before .before .before .before .before .before .before .before .before .before .before .before .before .before .args in
+    let a = c .before .before .before .before .before .before .before .before .before .before .before .before .before .before .before .before .before .before .before .before .before .args in
     let e = c .before .before .before .before .before .before .run-instr .ensures in
     let t : isGoing (a .batch .state) && anyLive (a .batch .mask .live) ≡ true = rw (← c .before .before .before .before .before .before .before .before .before .before .before .before .before .going .ensures, ← Bool·not-not (anyLive (a .batch .mask .live)), ← c .before .before .before .before .before .before .before .before .before .before .before .before .is-empty .ensures) (c .before .before .before .before .before .before .before .before .before .before .before .if1 .taken) in
     (rw (t, ← c .before .before .before .before .before .before .before .before .before .before .instr-at .ensures) (e .0), e .1)
@@ -39,9 +39,9 @@ returns c =
 returns-2 : tie.Need-returns-2
 unfolding ranNext
 returns-2 c =
-    let a = c .before .before .before .before .before .before .before .before .before .args in
+    let a = c .before .before .before .before .before .before .before .before .before .before .args in
     let t : isGoing (a .batch .state) && anyLive (a .batch .mask .live) ≡ false = rw (← c .before .before .going .ensures, ← Bool·not-not (anyLive (a .batch .mask .live)), ← c .before .is-empty .ensures) (c .if1 .left) in
-    (rw t, c .before .before .before .before .before .before .before .before .before .pre .3 .used)
+    (rw t, c .before .before .before .before .before .before .before .before .before .before .pre .4 .used)
 
 pub run-next-spec : {M : Type 1} → statement M
 run-next-spec =

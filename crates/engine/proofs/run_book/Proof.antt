@@ -40,6 +40,7 @@ run-steps-requires c κs =
     let z = c .before .before .before .before .before .before .before .before .before .sizes-of .ensures in
     let s = c .before .before .before .before .start .ensures in (
       p .0 .readable,
+      c .before .before .before .before .before .before .before .before .size .ensures .0 ∙ z .tables,
       omega (arith, c .before .before .before .before .before .before .before .before .size .ensures .0, c .before .before .before .before .before .before .before .size2 .ensures .0, z .tables, z .counters),
       omega (arith, c .before .before .before .before .before .before .before .before .size .ensures .0, c .before .before .before .before .before .before .before .size2 .ensures .0, c .before .before .before .before .before .before .size3 .ensures .0, z .tables, z .counters, z .rules),
       c .before .before .before .before .before .size4 .ensures .0 ∙ z .steps,
@@ -49,21 +50,18 @@ run-steps-requires c κs =
       ap length (p .1) ∙ length-replicate {A = ℕ} 8192 0,
     )
 
-size-requires-5 : tie.Need-size-requires-5
-size-requires-5 c κs = search needs
-
 conclude-requires : tie.Need-conclude-requires
 conclude-requires c κs =
-    let p = c .before .before .before .before .before .before .before .before .before .before .before .before .before .before .before .before .before .before .before .before .before .before .before .before .before .before .before .before .before .pre in
-    let a = c .before .before .before .before .before .before .before .before .before .before .before .before .before .before .before .before .before .before .before .before .before .before .before .before .before .before .before .before .before .args in
-    let z = c .before .before .before .before .before .before .before .before .before .before .before .before .before .before .before .before .before .before .before .before .before .before .sizes-of .ensures in
-    let r = c .before .before .before .before .before .before .before .before .before .before .before .before .run-steps in (
+    let p = c .before .before .before .before .before .before .before .before .before .before .before .before .before .before .before .before .before .before .before .before .before .before .before .before .before .before .before .before .pre in
+    let a = c .before .before .before .before .before .before .before .before .before .before .before .before .before .before .before .before .before .before .before .before .before .before .before .before .before .before .before .before .args in
+    let z = c .before .before .before .before .before .before .before .before .before .before .before .before .before .before .before .before .before .before .before .before .before .sizes-of .ensures in
+    let r = c .before .before .before .before .before .before .before .before .before .before .before .run-steps in (
       p .0 .readable,
-      omega (arith, c .before .before .before .before .before .before .before .before .before .before .before .before .before .before .before .before .before .before .before .before .before .size .ensures .0, c .before .before .before .before .before .before .before .before .before .before .before .before .before .before .before .before .before .before .before .before .size2 .ensures .0, c .before .before .before .before .before .before .before .before .before .before .before .before .before .before .before .before .before .before .before .size3 .ensures .0, z .tables, z .counters, z .rules),
-      c .before .before .before .size5 .ensures .0 ∙ z .tables,
+      omega (arith, c .before .before .before .before .before .before .before .before .before .before .before .before .before .before .before .before .before .before .before .before .size .ensures .0, c .before .before .before .before .before .before .before .before .before .before .before .before .before .before .before .before .before .before .before .size2 .ensures .0, c .before .before .before .before .before .before .before .before .before .before .before .before .before .before .before .before .before .before .size3 .ensures .0, z .tables, z .counters, z .rules),
+      c .before .before .before .before .before .before .before .before .before .before .before .before .before .before .before .before .before .before .before .before .size .ensures .0 ∙ z .tables,
       r .ensures .1 .1,
       p .5,
-      may-conclude (now (a .words)) (p .0) (now (a .bindings)) (now (a .index)) (now (a .log)) (now (a .answer)) (p .4) (p .2) (p .3) (p .6) _ (c .before .before .before .before .before .before .before .before .before .before .before .before .before .before .before .before .before .before .size4 .ensures .0 ∙ z .steps) _ (c .before .before .before .before .before .before .before .before .before .before .before .before .before .before .before .before .before .start .ensures) _ (r .ensures .0) (r .kept .1 .1 .1 .1 .1 .1 .0) (r .ensures .1 .2) (r .ensures .1 .0),
+      may-conclude (now (a .words)) (p .0) (now (a .bindings)) (now (a .index)) (now (a .log)) (now (a .answer)) (p .4) (p .2) (p .3) (p .6) _ (c .before .before .before .before .before .before .before .before .before .before .before .before .before .before .before .before .before .size4 .ensures .0 ∙ z .steps) _ (c .before .before .before .before .before .before .before .before .before .before .before .before .before .before .before .before .start .ensures) _ (r .ensures .0) (r .kept .1 .1 .1 .1 .1 .1 .1 .0) (r .ensures .1 .2) (r .ensures .1 .0),
     )
 
 same-length : tie.Need-same-length
@@ -83,11 +81,11 @@ same-length-5 c = search needs
 
 returns : tie.Need-returns
 returns c =
-    let p = c .before .before .before .before .before .before .before .before .before .before .before .before .before .before .before .before .before .before .before .before .before .before .before .before .before .before .before .before .before .before .before .before .before .before .pre in
-    let a = c .before .before .before .before .before .before .before .before .before .before .before .before .before .before .before .before .before .before .before .before .before .before .before .before .before .before .before .before .before .before .before .before .before .before .args in
-    let z = c .before .before .before .before .before .before .before .before .before .before .before .before .before .before .before .before .before .before .before .before .before .before .before .before .before .before .before .sizes-of .ensures in
-    let r = c .before .before .before .before .before .before .before .before .before .before .before .before .before .before .before .before .before .run-steps in
-    book-concludes (now (a .words)) (p .0) (now (a .bindings)) (now (a .index)) (now (a .log)) (now (a .answer)) (p .4) (p .2) (p .3) (p .6) _ (c .before .before .before .before .before .before .before .before .before .before .before .before .before .before .before .before .before .before .before .before .before .before .before .size4 .ensures .0 ∙ z .steps) _ (c .before .before .before .before .before .before .before .before .before .before .before .before .before .before .before .before .before .before .before .before .before .before .start .ensures) _ (r .ensures .0) (r .kept .1 .1 .1 .1 .1 .1 .0) (r .kept .1 .1 .1 .1 .1 .1 .1 .1 .0) (now (a .tables)) (p .5) _ (c .before .before .before .before .conclude .ensures)
+    let p = c .before .before .before .before .before .before .before .before .before .before .before .before .before .before .before .before .before .before .before .before .before .before .before .before .before .before .before .before .before .before .before .before .before .pre in
+    let a = c .before .before .before .before .before .before .before .before .before .before .before .before .before .before .before .before .before .before .before .before .before .before .before .before .before .before .before .before .before .before .before .before .before .args in
+    let z = c .before .before .before .before .before .before .before .before .before .before .before .before .before .before .before .before .before .before .before .before .before .before .before .before .before .before .sizes-of .ensures in
+    let r = c .before .before .before .before .before .before .before .before .before .before .before .before .before .before .before .before .run-steps in
+    book-concludes (now (a .words)) (p .0) (now (a .bindings)) (now (a .index)) (now (a .log)) (now (a .answer)) (p .4) (p .2) (p .3) (p .6) _ (c .before .before .before .before .before .before .before .before .before .before .before .before .before .before .before .before .before .before .before .before .before .before .size4 .ensures .0 ∙ z .steps) _ (c .before .before .before .before .before .before .before .before .before .before .before .before .before .before .before .before .before .before .before .before .before .start .ensures) _ (r .ensures .0) (r .kept .1 .1 .1 .1 .1 .1 .1 .0) (r .kept .1 .1 .1 .1 .1 .1 .1 .1 .1 .0) (now (a .tables)) (p .5) _ (c .before .before .before .before .conclude .ensures)
 
 pub run-book-spec : {M : Type 1} → statement M
 run-book-spec =
@@ -102,7 +100,6 @@ run-book-spec =
     size-requires-4
     start-requires
     run-steps-requires
-    size-requires-5
     conclude-requires
     same-length
     same-length-2

@@ -10,14 +10,14 @@ enum-known-ask c = search needs
 fetch-requires : tie.Need-fetch-requires
 fetch-requires c κs = (rw (c .before .ask .given .1) at (c .before .before .before .before .before .before .pre .0)) .1
 
-look-up-requires : tie.Need-look-up-requires
-look-up-requires c κs =
+look-up-among-requires : tie.Need-look-up-among-requires
+look-up-among-requires c κs =
     let ask = c .before .before .before .before .ask .given .1 in
     let p = c .before .before .before .before .before .before .before .before .before .pre in
     ((rw ask at (p .0)) .0, rw ask at (p .1))
 
 column-requires : tie.Need-column-requires
-column-requires c κs = begins _ _ _ _ ((rw (c .before .before .before .before .before .ask .given .1) at (c .before .before .before .before .before .before .before .before .before .before .pre .0)) .0) (c .look-up .ensures)
+column-requires c κs = begins _ _ _ _ ((rw (c .before .before .before .before .before .ask .given .1) at (c .before .before .before .before .before .before .before .before .before .before .pre .0)) .0) (c .look-up-among .ensures)
 
 enum-known-ask-2 : tie.Need-enum-known-ask-2
 enum-known-ask-2 c = search needs
@@ -36,7 +36,7 @@ value-requires c κs = search needs
 
 returns : tie.Need-returns
 unfolding asked
-returns c = rw (c .before .before .before .before .before .before .ask .given .1, ← c .before .before .before .before .fetch .ensures, ← c .before .look-up .ensures) (c .column .ensures)
+returns c = rw (c .before .before .before .before .before .before .ask .given .1, ← c .before .before .before .before .fetch .ensures, ← c .before .look-up-among .ensures) (c .column .ensures)
 
 returns-2 : tie.Need-returns-2
 unfolding asked
@@ -52,7 +52,7 @@ answer-spec =
     (tie.spec
     enum-known-ask
     fetch-requires
-    look-up-requires
+    look-up-among-requires
     column-requires
     enum-known-ask-2
     fetch-requires-2

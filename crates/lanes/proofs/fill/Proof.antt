@@ -10,14 +10,14 @@ use Rattle.model.specs.Basics.{only}
 use Rattle.words.specs.Filled.{filled, filled-none, filled-turn}
 use Rattle.lanes.specs.Lanes.{asked, isSome, orElse, answeredLanes, answeredWords}
 use borrow.Author.Needs.{needs}
-use Rattle.lanes.proofs.fill_by.Statement.{statement}
-use Rattle.lanes.proofs.fill_by.Tie as tie
+use Rattle.lanes.proofs.fill.Statement.{statement}
+use Rattle.lanes.proofs.fill.Tie as tie
 
 abbrev Inv-loop : tie.InvT-loop
-Inv-loop words bindings index ask out₀ mask found₀ i₀ out found i = (i ≤ 256) × (length out ≡ 256) × (found .live ≡ filled (λ k. isSome (only (getD (mask .live) k false) (asked words bindings ask k))) i (found₀ .live)) × (out ≡ filled (λ k. orElse (only (getD (mask .live) k false) (asked words bindings ask k)) (getD out₀ k 0)) i out₀)
+Inv-loop words committed bindings ask out₀ mask found₀ i₀ out found i = (i ≤ 256) × (length out ≡ 256) × (found .live ≡ filled (λ k. isSome (only (getD (mask .live) k false) (asked words bindings ask k))) i (found₀ .live)) × (out ≡ filled (λ k. orElse (only (getD (mask .live) k false) (asked words bindings ask k)) (getD out₀ k 0)) i out₀)
 
 abbrev μ-loop : tie.MeasureT-loop
-μ-loop words bindings index ask out₀ mask found₀ i₀ out found i = 256 - i
+μ-loop words committed bindings ask out₀ mask found₀ i₀ out found i = 256 - i
 
 new-requires : tie.Need-new-requires Inv-loop μ-loop
 new-requires c κs = search needs
@@ -81,8 +81,8 @@ returns c =
     let a = c .before .before .before .before .before .before .before .args in
     (all-lanes _ _ (l .found .live) (l .i) (l .inv .2) (search needs) (omega arith), all-lanes _ (now (a .out)) (l .out) (l .i) (l .inv .3) (search needs) (omega arith))
 
-pub fill-by-spec : {M : Type 1} → statement M
-fill-by-spec =
+pub fill-spec : {M : Type 1} → statement M
+fill-spec =
     tie.close
     (tie.spec
     Inv-loop

@@ -4,8 +4,11 @@ use borrow.Author.Needs.{needs}
 use Rattle.predict.proofs.predict_val.Statement.{statement}
 use Rattle.predict.proofs.predict_val.Tie as tie
 
-find-requires : tie.Need-find-requires
-find-requires c κs = search needs
+rows-before-requires : tie.Need-rows-before-requires
+rows-before-requires c κs = search needs
+
+look-up-among-requires : tie.Need-look-up-among-requires
+look-up-among-requires c κs = rw (c .before .rows-before .ensures) (c .before .before .before .before .before .before .before .before .pre .0, c .before .before .before .before .before .before .before .before .pre .1)
 
 enum-known-p : tie.Need-enum-known-p
 enum-known-p c = search needs
@@ -21,7 +24,7 @@ of-log-requires c κs = c .before .before .before .before .get-or-insert .ensure
 
 returns : tie.Need-returns
 unfolding answered
-returns c = (rw (← c .before .before .before .find .ensures, c .before .p .given .1), c .before .before .before .before .before .before .before .before .before .before .pre .3 .used)
+returns c = (rw (← c .before .before .before .look-up-among .ensures, c .before .p .given .1), c .before .before .before .before .before .before .before .before .before .before .before .before .pre .4 .used)
 
 same-length : tie.Need-same-length
 same-length c = search needs
@@ -33,13 +36,14 @@ returns-2 : tie.Need-returns-2
 unfolding answered
 returns-2 c =
     let e = c .before .before .before .before .before .get-or-insert .ensures in
-    (rw (← c .before .before .before .before .before .before .before .before .before .before .find .ensures, c .before .before .before .before .before .before .before .before .enum-told .given .1, c .of-log .ensures) (ap (λ (g : Gotten). record { prediction = ofLog (g .got); log = g .log; index = g .index }) (e .0)), rw (c .of-log .ensures) (e .1 .0))
+    (rw (← c .before .before .before .before .before .before .before .before .before .before .look-up-among .ensures, c .before .before .before .before .before .before .before .before .enum-told .given .1, c .of-log .ensures) (ap (λ (g : Gotten). record { prediction = ofLog (g .got); log = g .log; index = g .index }) (e .0)), rw (c .of-log .ensures) (e .1 .0))
 
 pub predict-val-spec : {M : Type 1} → statement M
 predict-val-spec =
     tie.close
     (tie.spec
-    find-requires
+    rows-before-requires
+    look-up-among-requires
     enum-known-p
     enum-told
     get-or-insert-requires

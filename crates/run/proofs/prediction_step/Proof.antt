@@ -18,27 +18,27 @@ use Rattle.run.proofs.prediction_step.Statement.{statement}
 use Rattle.run.proofs.prediction_step.Tie as tie
 
 -- the words of a row, which are 16 at most, and a row that stands in its words
-width-is : (c : tie.After-info-of) → c .info-of .result .width ≡ widthOf (now (c .before .before .before .before .before .before .before .before .before .before .before .before .before .before .before .before .before .args .words)) (getD (now (c .before .before .before .before .before .before .before .before .before .before .before .before .before .before .before .before .before .args .words)) (firstOf (now (c .before .before .before .before .before .before .before .before .before .before .before .before .before .before .before .before .before .args .words)) (c .before .before .before .before .before .before .before .before .before .before .before .before .before .before .before .before .before .args .i)) 0)
+width-is : (c : tie.After-info-of) → c .info-of .result .width ≡ widthOf (now (c .before .before .before .before .before .before .before .before .before .before .before .before .before .before .before .before .before .before .args .words)) (getD (now (c .before .before .before .before .before .before .before .before .before .before .before .before .before .before .before .before .before .before .args .words)) (firstOf (now (c .before .before .before .before .before .before .before .before .before .before .before .before .before .before .before .before .before .before .args .words)) (c .before .before .before .before .before .before .before .before .before .before .before .before .before .before .before .before .before .before .args .i)) 0)
 width-is c =
-    let w = now (c .before .before .before .before .before .before .before .before .before .before .before .before .before .before .before .before .before .args .words) in
+    let w = now (c .before .before .before .before .before .before .before .before .before .before .before .before .before .before .before .before .before .before .args .words) in
     ap (λ (t : TableInfo). t .width) (c .info-of .ensures) ∙ ap (λ (t : ℕ). widthOf w t) (c .before .word .ensures ∙ ap (λ (p : ℕ). getD w p 0) (c .before .before .first-of .ensures .0))
 
-holds : (c : tie.Then1) → Holds (now (c .before .before .before .before .before .before .before .before .before .before .before .before .before .before .before .before .before .before .before .before .before .args .words)) (c .before .before .before .before .before .before .before .before .before .before .before .before .run-prediction .last .1 .1 .1 .1 .0) (c .before .before .before .before .info-of .result .width) (c .before .before .before .before .before .before .before .before .before .before .before .before .run-prediction .result .place)
+holds : (c : tie.Then1) → Holds (now (c .before .before .before .before .before .before .before .before .before .before .before .before .before .before .before .before .before .before .before .before .before .before .args .words)) (c .before .before .before .before .before .before .before .before .before .before .before .before .run-prediction .last .1 .1 .1 .1 .1 .0) (c .before .before .before .before .info-of .result .width) (c .before .before .before .before .before .before .before .before .before .before .before .before .run-prediction .result .place)
 holds c =
     let r = c .before .before .before .before .before .before .before .before .before .before .before .before .run-prediction in
-    stands-holds (now (c .before .before .before .before .before .before .before .before .before .before .before .before .before .before .before .before .before .before .before .before .before .args .words)) (r .last .1 .1 .1 .1 .0) (c .before .before .before .before .info-of .result .width) (r .result .place) (sym (c .before .stands-in .ensures) ∙ and-split (c .before .before .before .going .result) (c .before .stands-in .result) (c .if1 .taken) .1)
+    stands-holds (now (c .before .before .before .before .before .before .before .before .before .before .before .before .before .before .before .before .before .before .before .before .before .before .args .words)) (r .last .1 .1 .1 .1 .1 .0) (c .before .before .before .before .info-of .result .width) (r .result .place) (sym (c .before .stands-in .ensures) ∙ and-split (c .before .before .before .going .result) (c .before .stands-in .result) (c .if1 .taken) .1)
 
-most : (c : tie.After-write-prediction) → c .write-prediction .result ≤ c .before .before .before .before .before .before .before .before .before .before .before .before .before .before .before .before .before .before .before .before .before .before .before .before .args .p .at + 17
+most : (c : tie.After-write-prediction) → c .write-prediction .result ≤ c .before .before .before .before .before .before .before .before .before .before .before .before .before .before .before .before .before .before .before .before .before .before .before .before .before .args .p .at + 17
 most c =
-    let q = c .before .before .before .before .before .before .before .before .before .before .before .before .before .before .before .before .before .before .before .before .before .before .before .before .pre in
+    let q = c .before .before .before .before .before .before .before .before .before .before .before .before .before .before .before .before .before .before .before .before .before .before .before .before .before .pre in
     let r = c .before .before .before .before .before .before .before .before .before .before .before .before .before .before .before .run-prediction in
-    omega (arith, c .write-prediction .ensures .1, length-row (now (c .before .before .before .before .before .before .before .before .before .before .before .before .before .before .before .before .before .before .before .before .before .before .before .before .args .words)) (r .last .1 .1 .1 .1 .0) (c .before .before .before .before .before .before .before .info-of .result .width) (r .result .place) (holds (c .before .before .before)), width-is (c .before .before .before .before .before .before .before), width-most (q .0) (q .1) (q .2))
+    omega (arith, c .write-prediction .ensures .1, length-row (now (c .before .before .before .before .before .before .before .before .before .before .before .before .before .before .before .before .before .before .before .before .before .before .before .before .before .args .words)) (r .last .1 .1 .1 .1 .1 .0) (c .before .before .before .before .before .before .before .info-of .result .width) (r .result .place) (holds (c .before .before .before)), width-is (c .before .before .before .before .before .before .before), width-most (q .0) (q .2) (q .3))
 
 run-prediction-requires : tie.Need-run-prediction-requires
 run-prediction-requires c κs = search needs
 
 first-of-requires : tie.Need-first-of-requires
-first-of-requires c κs = let q = c .before .before .before .before .before .before .before .before .before .before .before .before .before .before .pre in omega (arith, entry-small (q .0) (q .1))
+first-of-requires c κs = let q = c .before .before .before .before .before .before .before .before .before .before .before .before .before .before .before .pre in omega (arith, entry-small (q .0) (q .2))
 
 word-requires : tie.Need-word-requires
 word-requires c κs = search needs
@@ -53,16 +53,16 @@ stands-in-requires : tie.Need-stands-in-requires
 stands-in-requires c κs = search needs
 
 write-prediction-requires : tie.Need-write-prediction-requires
-write-prediction-requires c κs = let q = c .before .before .before .before .before .before .before .before .before .before .before .before .before .before .before .before .before .before .before .before .before .before .before .pre in (holds (c .before .before), omega (arith, q .3 .at))
+write-prediction-requires c κs = let q = c .before .before .before .before .before .before .before .before .before .before .before .before .before .before .before .before .before .before .before .before .before .before .before .before .pre in (holds (c .before .before), omega (arith, q .4 .at))
 
 advance-requires : tie.Need-advance-requires
-advance-requires c κs = let q = c .before .before .before .before .before .before .before .before .before .before .before .before .before .before .before .before .before .before .before .before .before .before .before .before .before .before .pre in (q .3 .done, omega (arith, c .before .before .write-prediction .ensures .1), omega (arith, most (c .before .before), q .3 .at))
+advance-requires c κs = let q = c .before .before .before .before .before .before .before .before .before .before .before .before .before .before .before .before .before .before .before .before .before .before .before .before .before .before .before .pre in (q .4 .done, omega (arith, c .before .before .write-prediction .ensures .1), omega (arith, most (c .before .before), q .4 .at))
 
 same-length : tie.Need-same-length
-same-length c = c .before .before .before .before .before .before .before .before .before .before .before .before .before .before .before .before .before .before .run-prediction .kept .1 .1 .1 .1 .0
+same-length c = c .before .before .before .before .before .before .before .before .before .before .before .before .before .before .before .before .before .before .run-prediction .kept .1 .1 .1 .1 .1 .0
 
 same-length-2 : tie.Need-same-length-2
-same-length-2 c = c .before .before .before .before .before .before .before .before .before .before .before .before .before .before .before .before .before .before .run-prediction .kept .1 .1 .1 .1 .1 .0
+same-length-2 c = c .before .before .before .before .before .before .before .before .before .before .before .before .before .before .before .before .before .before .run-prediction .kept .1 .1 .1 .1 .1 .1 .0
 
 same-length-3 : tie.Need-same-length-3
 same-length-3 c = search needs
@@ -70,13 +70,13 @@ same-length-3 c = search needs
 returns : tie.Need-returns
 unfolding predictionStep
 returns c =
-    let a = c .before .before .before .before .before .before .before .before .before .before .before .before .before .before .before .before .before .before .before .before .before .before .before .before .before .before .before .args in
+    let a = c .before .before .before .before .before .before .before .before .before .before .before .before .before .before .before .before .before .before .before .before .before .before .before .before .before .before .before .before .args in
     let w = now (a .words) in
     let r = c .before .before .before .before .before .before .before .before .before .before .before .before .before .before .before .before .before .before .run-prediction in
     let b = c .before .before .before .write-prediction in
     let n = c .before .before .before .before .before .before .before .before .before .before .info-of .result .width in
     let A : Ran = record { progress = a .p; bindings = now (a .bindings); log = now (a .log); index = now (a .index); answer = now (a .answer) } in
-    let D : Answered = record { prediction = r .result; log = r .last .1 .1 .1 .1 .0; index = r .last .1 .1 .1 .1 .1 .0 } in (
+    let D : Answered = record { prediction = r .result; log = r .last .1 .1 .1 .1 .1 .0; index = r .last .1 .1 .1 .1 .1 .1 .0 } in (
       row-answered w n D A (c .advance .result) (b .last .1 .1 .1 .1 .1 .1 .0) (rw (c .before .before .before .before .before .before .before .before .before .going .ensures, c .before .before .before .before .before .before .before .stands-in .ensures) at (c .before .before .before .before .before .before .if1 .taken)) (c .advance .ensures ∙ ap (λ (e : ℕ). advanced (r .result .state) e (a .p)) (b .ensures .1)) (b .ensures .0)
           ∙ ap (λ (k : ℕ). rowTold w k D A) (width-is (c .before .before .before .before .before .before .before .before .before .before))
           ∙ ap (λ (x : Answered). rowTold w (widthOf w (getD w (firstOf w (a .i)) 0)) x A) (r .ensures .0),
@@ -95,12 +95,12 @@ same-length-5 c = search needs
 returns-2 : tie.Need-returns-2
 unfolding predictionStep
 returns-2 c =
-    let a = c .before .before .before .before .before .before .before .before .before .before .before .before .before .before .before .before .before .before .before .before .before .before .args in
+    let a = c .before .before .before .before .before .before .before .before .before .before .before .before .before .before .before .before .before .before .before .before .before .before .before .args in
     let w = now (a .words) in
     let r = c .before .before .before .before .before .before .before .before .before .before .before .before .before .run-prediction in
     let n = c .before .before .before .before .before .info-of .result .width in
     let A : Ran = record { progress = a .p; bindings = now (a .bindings); log = now (a .log); index = now (a .index); answer = now (a .answer) } in
-    let D : Answered = record { prediction = r .result; log = r .last .1 .1 .1 .1 .0; index = r .last .1 .1 .1 .1 .1 .0 } in (
+    let D : Answered = record { prediction = r .result; log = r .last .1 .1 .1 .1 .1 .0; index = r .last .1 .1 .1 .1 .1 .1 .0 } in (
       row-stopped w n D A (c .halt .result) (rw (c .before .before .before .before .going .ensures, c .before .before .stands-in .ensures) at (c .before .if1 .left)) (c .halt .ensures)
           ∙ ap (λ (k : ℕ). rowTold w k D A) (width-is (c .before .before .before .before .before))
           ∙ ap (λ (x : Answered). rowTold w (widthOf w (getD w (firstOf w (a .i)) 0)) x A) (r .ensures .0),

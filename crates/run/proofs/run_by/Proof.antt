@@ -9,11 +9,11 @@ use Rattle.model.specs.Laws.Book.{few-steps}
 use Rattle.model.specs.Laws.Iter.{iter-more}
 use Rattle.run.specs.Progress.{Ran, ranNext, ranSteps}
 use borrow.Author.Needs.{needs}
-use Rattle.run.proofs.run_steps.Statement.{statement}
-use Rattle.run.proofs.run_steps.Tie as tie
+use Rattle.run.proofs.run_by.Statement.{statement}
+use Rattle.run.proofs.run_by.Tie as tie
 
 abbrev Inv-loop : tie.InvT-loop
-Inv-loop words base first steps bindings₀ log₀ index₀ answer₀ p₀ k₀ bindings log index answer p k =
+Inv-loop words committed base first steps bindings₀ log₀ index₀ answer₀ p₀ k₀ bindings log index answer p k =
     (k ≤ steps)
     × (length bindings ≡ length bindings₀)
     × (length log ≡ length log₀)
@@ -25,21 +25,21 @@ Inv-loop words base first steps bindings₀ log₀ index₀ answer₀ p₀ k₀ 
     × (_≡_ {A = Ran} (record { progress = p; bindings = bindings; log = log; index = index; answer = answer }) (iter (λ _. ranNext words) k (record { progress = p₀; bindings = bindings₀; log = log₀; index = index₀; answer = answer₀ })))
 
 abbrev μ-loop : tie.MeasureT-loop
-μ-loop words base first steps bindings₀ log₀ index₀ answer₀ p₀ k₀ bindings log index answer p k = steps - k
+μ-loop words committed base first steps bindings₀ log₀ index₀ answer₀ p₀ k₀ bindings log index answer p k = steps - k
 
 loop-holds : tie.Need-loop-holds Inv-loop μ-loop
-loop-holds c = let q = c .before .before .before .before .before .pre in (search needs, refl, refl, refl, refl, q .6 .used, omega (arith, q .4), omega (arith, q .5), refl)
+loop-holds c = let q = c .before .before .before .before .before .before .pre in (search needs, refl, refl, refl, refl, q .7 .used, omega (arith, q .5), omega (arith, q .6), refl)
 
 run-next-requires : tie.Need-run-next-requires Inv-loop μ-loop
 run-next-requires c κs =
-    let q = c .before .before .before .before .before .before .before .before .before .before .before .pre in
+    let q = c .before .before .before .before .before .before .before .before .before .before .before .before .pre in
     let l = c .before .before .before .before .before .loop in
-    let k : l .k < stepCount (now (c .before .before .before .before .before .before .before .before .before .before .before .args .words)) = omega (arith, c .before .before .before .before .loop-test .taken, q .3) in
-    let few = few-steps (now (c .before .before .before .before .before .before .before .before .before .before .before .args .words)) (q .0) in
-    (q .0, q .1, q .2, omega (arith, l .inv .6), record { done = omega (arith, l .inv .6); at = omega (arith, l .inv .7) }, record { used = omega (arith, l .inv .5, l .inv .2); short = omega (arith, q .6 .short, l .inv .2); slots = l .inv .3 ∙ q .6 .slots }, l .inv .1 ∙ q .7)
+    let k : l .k < stepCount (now (c .before .before .before .before .before .before .before .before .before .before .before .before .args .words)) = omega (arith, c .before .before .before .before .loop-test .taken, q .4) in
+    let few = few-steps (now (c .before .before .before .before .before .before .before .before .before .before .before .before .args .words)) (q .0) in
+    (q .0, q .1, q .2, q .3, omega (arith, l .inv .6), record { done = omega (arith, l .inv .6); at = omega (arith, l .inv .7) }, record { used = omega (arith, l .inv .5, l .inv .2); short = omega (arith, q .7 .short, l .inv .2); slots = l .inv .3 ∙ q .7 .slots }, l .inv .1 ∙ q .8)
 
 add-k : tie.Need-add-k Inv-loop μ-loop
-add-k c = search needs
+add-k c = omega (arith, c .before .before .before .before .before .before .before .before .before .before .before .before .before .loop-test .taken, c .before .before .before .before .before .before .before .before .before .before .before .before .before .before .before .before .before .before .before .before .before .good)
 
 loop-less : tie.Need-loop-less Inv-loop μ-loop
 loop-less c = search needs
@@ -48,7 +48,7 @@ loop-again : tie.Need-loop-again Inv-loop μ-loop
 loop-again c =
     let l = c .before .before .before .before .before .before .before .before .before .before .before .before .before .before .loop in
     let r = c .before .before .before .before .before .before .before .before .run-next in
-    let k = r .kept .1 .1 .1 .1 in (
+    let k = r .kept .1 .1 .1 .1 .1 in (
       search needs,
       k .0 ∙ l .inv .1,
       k .1 .0 ∙ l .inv .2,
@@ -76,13 +76,13 @@ returns : tie.Need-returns Inv-loop μ-loop
 unfolding ranSteps
 returns c =
     let l = c .before .loop in
-    let q = c .before .before .before .before .before .before .before .pre in
-    let e : l .k ≡ c .before .before .before .before .before .before .before .args .steps = omega (arith, l .inv .0, c .loop-test .left) in
-    let few = few-steps (now (c .before .before .before .before .before .before .before .args .words)) (q .0) in
-    (rw (← e) (l .inv .8), (l .inv .5, omega (arith, l .inv .6, q .3), omega (arith, l .inv .7, q .3)))
+    let q = c .before .before .before .before .before .before .before .before .pre in
+    let e : l .k ≡ c .before .before .before .before .before .before .before .before .args .steps = omega (arith, l .inv .0, c .loop-test .left) in
+    let few = few-steps (now (c .before .before .before .before .before .before .before .before .args .words)) (q .0) in
+    (rw (← e) (l .inv .8), (l .inv .5, omega (arith, l .inv .6, q .4), omega (arith, l .inv .7, q .4)))
 
-pub run-steps-spec : {M : Type 1} → statement M
-run-steps-spec =
+pub run-by-spec : {M : Type 1} → statement M
+run-by-spec =
     tie.close
     (tie.spec
     Inv-loop

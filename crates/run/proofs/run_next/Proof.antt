@@ -21,21 +21,21 @@ going-requires c κs = search needs
 
 add-i : tie.Need-add-i
 add-i c =
-    let a = c .before .before .before .before .before .before .before .before .before .args in
-    let q = c .before .before .before .before .before .before .before .before .before .pre in
-    omega (arith, q .2, step-entry (now (a .words)) (q .0) (a .p .done) (q .3))
+    let a = c .before .before .before .before .before .before .before .before .before .before .args in
+    let q = c .before .before .before .before .before .before .before .before .before .before .pre in
+    omega (arith, q .3, step-entry (now (a .words)) (q .0) (a .p .done) (q .4))
 
 kind-of-requires : tie.Need-kind-of-requires
 kind-of-requires c κs =
-    let a = c .before .before .before .before .before .before .before .before .before .args in
-    let q = c .before .before .before .before .before .before .before .before .before .pre in
-    omega (arith, q .2, step-entry (now (a .words)) (q .0) (a .p .done) (q .3))
+    let a = c .before .before .before .before .before .before .before .before .before .before .args in
+    let q = c .before .before .before .before .before .before .before .before .before .before .pre in
+    omega (arith, q .3, step-entry (now (a .words)) (q .0) (a .p .done) (q .4))
 
 batch-step-requires : tie.Need-batch-step-requires
 batch-step-requires c κs =
-    let a = c .before .before .before .before .before .before .before .before .before .before .before .before .before .before .before .args in
-    let q = c .before .before .before .before .before .before .before .before .before .before .before .before .before .before .before .pre in
-    (q .0, q .1, here (now (a .words)) (a .first) (a .p .done) (q .2) (q .3), sym (c .before .before .before .before .before .kind-of .ensures) ∙ c .before .before .before .before .if2 .taken, q .4, q .5, q .6)
+    let a = c .before .before .before .before .before .before .before .before .before .before .before .before .before .before .before .before .args in
+    let q = c .before .before .before .before .before .before .before .before .before .before .before .before .before .before .before .before .pre in
+    (q .0, q .1, q .2, here (now (a .words)) (a .first) (a .p .done) (q .3) (q .4), sym (c .before .before .before .before .before .kind-of .ensures) ∙ c .before .before .before .before .if2 .taken, q .5, q .6, q .7)
 
 same-length : tie.Need-same-length
 same-length c = search needs
@@ -51,17 +51,17 @@ same-length-4 c = search needs
 
 returns : tie.Need-returns
 returns c =
-    let a = c .before .before .before .before .before .before .before .before .before .before .before .before .before .before .before .before .before .before .before .before .before .before .before .before .args in
-    let q = c .before .before .before .before .before .before .before .before .before .before .before .before .before .before .before .before .before .before .before .before .before .before .before .before .pre in
+    let a = c .before .before .before .before .before .before .before .before .before .before .before .before .before .before .before .before .before .before .before .before .before .before .before .before .before .args in
+    let q = c .before .before .before .before .before .before .before .before .before .before .before .before .before .before .before .before .before .before .before .before .before .before .before .before .before .pre in
     let A : Ran = record { progress = a .p; bindings = now (a .bindings); log = now (a .log); index = now (a .index); answer = now (a .answer) } in
-    (c .before .before .before .before .before .before .before .before .batch-step .ensures .0 ∙ next-batch (now (a .words)) A (a .first + a .p .done) (sym (c .before .before .before .before .before .before .before .before .before .before .before .before .before .before .before .before .before .going .ensures) ∙ c .before .before .before .before .before .before .before .before .before .before .before .before .before .before .before .before .if1 .taken) (ap (λ (f : ℕ). f + a .p .done) (q .2)) (sym (c .before .before .before .before .before .before .before .before .before .before .before .before .before .before .kind-of .ensures) ∙ c .before .before .before .before .before .before .before .before .before .before .before .before .before .if2 .taken), c .before .before .before .before .before .before .before .before .batch-step .ensures .1)
+    (c .before .before .before .before .before .before .before .before .batch-step .ensures .0 ∙ next-batch (now (a .words)) A (a .first + a .p .done) (sym (c .before .before .before .before .before .before .before .before .before .before .before .before .before .before .before .before .before .going .ensures) ∙ c .before .before .before .before .before .before .before .before .before .before .before .before .before .before .before .before .if1 .taken) (ap (λ (f : ℕ). f + a .p .done) (q .3)) (sym (c .before .before .before .before .before .before .before .before .before .before .before .before .before .before .kind-of .ensures) ∙ c .before .before .before .before .before .before .before .before .before .before .before .before .before .if2 .taken), c .before .before .before .before .before .before .before .before .batch-step .ensures .1)
 
 prediction-step-requires : tie.Need-prediction-step-requires
 prediction-step-requires c κs =
-    let a = c .before .before .before .before .before .before .before .before .before .before .before .before .before .before .before .args in
-    let q = c .before .before .before .before .before .before .before .before .before .before .before .before .before .before .before .pre in
-    let s = here (now (a .words)) (a .first) (a .p .done) (q .2) (q .3) in
-    (q .0, s, not-batch (q .0) s (λ e. c .before .before .before .before .if2 .left (c .before .before .before .before .before .kind-of .ensures ∙ e)), q .4, q .5)
+    let a = c .before .before .before .before .before .before .before .before .before .before .before .before .before .before .before .before .args in
+    let q = c .before .before .before .before .before .before .before .before .before .before .before .before .before .before .before .before .pre in
+    let s = here (now (a .words)) (a .first) (a .p .done) (q .3) (q .4) in
+    (q .0, q .1, s, not-batch (q .0) s (λ e. c .before .before .before .before .if2 .left (c .before .before .before .before .before .kind-of .ensures ∙ e)), q .5, q .6)
 
 same-length-5 : tie.Need-same-length-5
 same-length-5 c = search needs
@@ -77,18 +77,18 @@ same-length-8 c = search needs
 
 returns-2 : tie.Need-returns-2
 returns-2 c =
-    let a = c .before .before .before .before .before .before .before .before .before .before .before .before .before .before .before .before .before .before .before .before .before .before .args in
-    let q = c .before .before .before .before .before .before .before .before .before .before .before .before .before .before .before .before .before .before .before .before .before .before .pre in
-    let s = here (now (a .words)) (a .first) (a .p .done) (q .2) (q .3) in
+    let a = c .before .before .before .before .before .before .before .before .before .before .before .before .before .before .before .before .before .before .before .before .before .before .before .args in
+    let q = c .before .before .before .before .before .before .before .before .before .before .before .before .before .before .before .before .before .before .before .before .before .before .before .pre in
+    let s = here (now (a .words)) (a .first) (a .p .done) (q .3) (q .4) in
     let A : Ran = record { progress = a .p; bindings = now (a .bindings); log = now (a .log); index = now (a .index); answer = now (a .answer) } in
-    (c .before .before .before .before .before .before .prediction-step .ensures .0 ∙ next-prediction (now (a .words)) A (a .first + a .p .done) (sym (c .before .before .before .before .before .before .before .before .before .before .before .before .before .before .before .going .ensures) ∙ c .before .before .before .before .before .before .before .before .before .before .before .before .before .before .if1 .taken) (ap (λ (f : ℕ). f + a .p .done) (q .2)) (not-batch (q .0) s (λ e. c .before .before .before .before .before .before .before .before .before .before .before .if2 .left (c .before .before .before .before .before .before .before .before .before .before .before .before .kind-of .ensures ∙ e))), c .before .before .before .before .before .before .prediction-step .ensures .1)
+    (c .before .before .before .before .before .before .prediction-step .ensures .0 ∙ next-prediction (now (a .words)) A (a .first + a .p .done) (sym (c .before .before .before .before .before .before .before .before .before .before .before .before .before .before .before .going .ensures) ∙ c .before .before .before .before .before .before .before .before .before .before .before .before .before .before .if1 .taken) (ap (λ (f : ℕ). f + a .p .done) (q .3)) (not-batch (q .0) s (λ e. c .before .before .before .before .before .before .before .before .before .before .before .if2 .left (c .before .before .before .before .before .before .before .before .before .before .before .before .kind-of .ensures ∙ e))), c .before .before .before .before .before .before .prediction-step .ensures .1)
 
 returns-3 : tie.Need-returns-3
 returns-3 c =
-    let a = c .before .before .before .before .before .before .before .before .args in
-    let q = c .before .before .before .before .before .before .before .before .pre in
+    let a = c .before .before .before .before .before .before .before .before .before .args in
+    let q = c .before .before .before .before .before .before .before .before .before .pre in
     let A : Ran = record { progress = a .p; bindings = now (a .bindings); log = now (a .log); index = now (a .index); answer = now (a .answer) } in
-    (next-stopped (now (a .words)) A (sym (c .before .going .ensures) ∙ c .if1 .left), (q .5 .used, omega arith, omega arith))
+    (next-stopped (now (a .words)) A (sym (c .before .going .ensures) ∙ c .if1 .left), (q .6 .used, omega arith, omega arith))
 
 pub run-next-spec : {M : Type 1} → statement M
 run-next-spec =

@@ -13,8 +13,8 @@ use Rattle.steps.proofs.run_batch.Tie as tie
 
 first-of-requires : tie.Need-first-of-requires
 first-of-requires c κs =
-    let q = c .before .before .before .before .pre in
-    omega (arith, entry-small (q .0) (q .2))
+    let q = c .before .before .before .before .before .pre in
+    omega (arith, entry-small (q .0) (q .3))
 
 word-requires : tie.Need-word-requires
 word-requires c κs = search needs
@@ -48,11 +48,11 @@ add-load c = search needs
 
 load-requires : tie.Need-load-requires
 load-requires c κs =
-    let q = c .before .before .before .before .before .before .before .before .before .before .before .before .before .before .before .before .pre in
+    let q = c .before .before .before .before .before .before .before .before .before .before .before .before .before .before .before .before .before .pre in
     let first = c .before .before .before .before .before .before .before .before .before .before .before .first-of .ensures .0 in
     let v = c .before .before .before .before .before .before .word3 .ensures in
     let n = c .before .before .before .before .before .before .before .size2 .ensures .0 ∙ c .before .before .before .before .before .before .before .before .word2 .ensures in
-    (rw (v, n, first) (columns-within (q .0) (q .2) (q .3)), rw (v, first) (omega (arith, batch-facts (q .0) (q .2) (q .3) .columns, q .5, c .before .before .before .clear .kept)))
+    (rw (v, n, first) (columns-within (q .0) (q .3) (q .4)), rw (v, first) (omega (arith, batch-facts (q .0) (q .3) (q .4) .columns, q .6, c .before .before .before .clear .kept)))
 
 new-requires : tie.Need-new-requires
 new-requires c κs = search needs
@@ -65,13 +65,13 @@ first-requires c κs = search needs
 
 run-instrs-requires : tie.Need-run-instrs-requires
 run-instrs-requires c κs =
-    let q = c .before .before .before .before .before .before .before .before .before .before .before .before .before .before .before .before .before .before .before .before .before .before .before .before .before .pre in
+    let q = c .before .before .before .before .before .before .before .before .before .before .before .before .before .before .before .before .before .before .before .before .before .before .before .before .before .before .pre in
     let first = c .before .before .before .before .before .before .before .before .before .before .before .before .before .before .before .before .before .before .before .before .first-of .ensures .0 in
     let rule = c .before .before .before .before .before .before .before .before .before .before .before .before .before .before .before .before .before .before .size .ensures .0 ∙ c .before .before .before .before .before .before .before .before .before .before .before .before .before .before .before .before .before .before .before .word .ensures in
-    (q .0, q .1, rw (rule, first) (batch-facts (q .0) (q .2) (q .3) .rule), q .4, c .before .before .before .before .before .before .before .before .load .kept .1 .1 .1 .1 .0 ∙ c .before .before .before .before .before .before .before .before .before .before .before .before .clear .kept .0 ∙ q .5)
+    (q .0, q .1, q .2, rw (rule, first) (batch-facts (q .0) (q .3) (q .4) .rule), q .5, c .before .before .before .before .before .before .before .before .load .kept .1 .1 .1 .1 .0 ∙ c .before .before .before .before .before .before .before .before .before .before .before .before .clear .kept .0 ∙ q .6)
 
 same-length : tie.Need-same-length
-same-length c = search needs
+same-length c = c .before .before .before .before .before .before .run-instrs .kept .1 .1 .1 .1 .1 .0 ∙ c .before .before .before .before .before .before .before .before .before .before .before .before .before .before .before .load .kept .1 .1 .1 .1 .0 ∙ c .before .before .before .before .before .before .before .before .before .before .before .before .before .before .before .before .before .before .before .clear .kept .0
 
 same-length-2 : tie.Need-same-length-2
 same-length-2 c = search needs
@@ -82,19 +82,19 @@ same-length-3 c = search needs
 returns : tie.Need-returns
 unfolding ranBatch
 returns c =
-    let q = c .before .before .before .before .before .before .before .before .before .before .before .before .before .before .before .before .before .before .before .before .before .before .before .before .before .before .before .before .before .before .before .before .pre in
+    let q = c .before .before .before .before .before .before .before .before .before .before .before .before .before .before .before .before .before .before .before .before .before .before .before .before .before .before .before .before .before .before .before .before .before .pre in
     let first = c .before .before .before .before .before .before .before .before .before .before .before .before .before .before .before .before .before .before .before .before .before .before .before .before .before .before .before .first-of .ensures .0 in
     let rule = c .before .before .before .before .before .before .before .before .before .before .before .before .before .before .before .before .before .before .before .before .before .before .before .before .before .size .ensures .0 ∙ c .before .before .before .before .before .before .before .before .before .before .before .before .before .before .before .before .before .before .before .before .before .before .before .before .before .before .word .ensures in
     let n = c .before .before .before .before .before .before .before .before .before .before .before .before .before .before .before .before .before .before .before .before .before .before .before .size2 .ensures .0 ∙ c .before .before .before .before .before .before .before .before .before .before .before .before .before .before .before .before .before .before .before .before .before .before .before .before .word2 .ensures in
     let v = c .before .before .before .before .before .before .before .before .before .before .before .before .before .before .before .before .before .before .before .before .before .before .word3 .ensures in
     let lanes = c .before .before .before .before .before .before .before .before .before .before .before .before .before .before .before .before .before .before .before .before .before .lane-count .ensures in
-    let zero = c .before .before .before .before .before .before .before .before .before .before .before .before .before .before .before .before .before .before .before .clear .ensures ∙ ap (λ (n : ℕ). replicate n 0) (q .5) in
+    let zero = c .before .before .before .before .before .before .before .before .before .before .before .before .before .before .before .before .before .before .before .clear .ensures ∙ ap (λ (n : ℕ). replicate n 0) (q .6) in
     let columns = c .before .before .before .before .before .before .before .before .before .before .before .before .before .before .before .load .ensures in
     let mask : c .before .before .before .before .before .before .before .before .before .before .before .before .new .result ≡ record { live = firstLanes (c .before .before .before .before .before .before .before .before .before .before .before .before .before .before .before .before .before .before .before .before .before .lane-count .result) } = ap (λ (l : List Bool). record { live = l }) (c .before .before .before .before .before .before .before .before .before .before .before .before .new .ensures) in
     let bound = c .before .before .before .before .before .before .before .before .before .before .first .ensures in
     let size = c .before .before .before .before .before .before .before .before .before .before .before .size3 .ensures .0 in
     let r = c .before .before .before .before .before .before .run-instrs in
-    (r .ensures .0 ∙ rw (columns, zero, mask, bound, size, lanes, q .1, rule, v, n, first), r .ensures .1)
+    (r .ensures .0 ∙ rw (columns, zero, mask, bound, size, lanes, q .2, rule, v, n, first), r .ensures .1)
 
 pub run-batch-spec : {M : Type 1} → statement M
 run-batch-spec =

@@ -1,5 +1,7 @@
 use mathlib.Core.Path.{ap, _∙_}
 use denote.Ref.{now}
+use Rattle.model.specs.Book.Contents.{tableCount}
+use Rattle.hash_index.specs.BookLaws.{book-has}
 use Rattle.predict.specs.Predict.{Served}
 use Rattle.action.specs.Act.{Lanes, withServed}
 use Rattle.action.specs.ActLaws.{table-stands}
@@ -12,9 +14,9 @@ row-ask-requires c κs = search needs
 
 fill-requires : tie.Need-fill-requires
 fill-requires c κs =
-    let a = c .before .before .before .before .before .before .before .args in
-    let p = c .before .before .before .before .before .before .before .pre in
-    rw (c .before .row-ask .ensures) ((table-stands (now (a .words)) (p .0) (a .table .0) (p .1), p .2), p .5)
+    let a = c .before .before .before .before .before .before .before .before .args in
+    let p = c .before .before .before .before .before .before .before .before .pre in
+    rw (c .before .row-ask .ensures) ((table-stands (now (a .words)) (p .0) (a .table .0) (p .2), p .3), book-has (now (a .words)) (tableCount (now (a .words))) (now (a .committed)) (p .1) (a .table .0) (p .2), p .6)
 
 info-of-requires : tie.Need-info-of-requires
 info-of-requires c κs = search needs
@@ -24,9 +26,9 @@ difference-requires c κs = search needs
 
 serve-lanes-requires : tie.Need-serve-lanes-requires
 serve-lanes-requires c κs =
-    let a = c .before .before .before .before .before .before .before .before .before .before .before .before .before .before .before .args in
-    let p = c .before .before .before .before .before .before .before .before .before .before .before .before .before .before .before .pre in
-    (p .2, (p .3, rw (c .before .before .before .before .info-of .ensures) (table-stands (now (a .words)) (p .0) (a .table .0) (p .1) .few)), p .4, c .before .before .before .before .before .before .before .fill .kept .1 .1 .1 .1 .0 ∙ p .5)
+    let a = c .before .before .before .before .before .before .before .before .before .before .before .before .before .before .before .before .args in
+    let p = c .before .before .before .before .before .before .before .before .before .before .before .before .before .before .before .before .pre in
+    (p .3, (p .4, rw (c .before .before .before .before .info-of .ensures) (table-stands (now (a .words)) (p .0) (a .table .0) (p .2) .few)), p .5, c .before .before .before .before .before .before .before .fill .kept .1 .1 .1 .1 .1 .0 ∙ p .6)
 
 same-length : tie.Need-same-length
 same-length c = search needs
@@ -39,7 +41,7 @@ same-length-3 c = search needs
 
 returns : tie.Need-returns
 returns c =
-    let a = c .before .before .before .before .before .before .before .before .before .before .before .before .before .before .before .before .before .before .before .before .before .before .args in
+    let a = c .before .before .before .before .before .before .before .before .before .before .before .before .before .before .before .before .before .before .before .before .before .before .before .args in
     let found = c .before .before .before .before .before .before .before .before .before .before .before .before .before .before .fill .ensures in
     let e = c .before .before .before .before .before .before .serve-lanes .ensures in
     let l : Lanes = record { live = a .mask .live; state = a .state; log = now (a .log); index = now (a .index); out = now (a .out) } in
