@@ -17,7 +17,6 @@ ghost use lib.ListN.{length, getD};
 ghost use Rattle.model.specs.Book.Contents.{firstOf, firstRule, ruleCount, tableCount};
 ghost use Rattle.model.specs.Laws.Book.{Readable};
 ghost use Rattle.hash_index.specs.Book.{BookIndex};
-ghost use Rattle.bound.specs.Bound.{binding};
 ghost use Rattle.instr.specs.declared.QueryEntry.the-variants.{Const};
 ghost use Rattle.instr.specs.Instr.{instrAt};
 ghost use Rattle.instr.specs.Stands.{Stands, IsVariable, variableOf};
@@ -270,16 +269,6 @@ fn bind_column(dst: Dst, lanes: usize, out: &[u32], bindings: &mut [u32])
     }
 }
 
-fn bind_variable(dst: Dst, bound: Bound) -> Bound
-    requires { ⌜ IsVariable (variableOf dst) ⌝ }
-    ensures { λ r. ⌜ r ≡ binding (variableOf dst) bound ⌝ }
-{
-    match dst {
-        Dst::Var(v) => bound.bind(v),
-        Dst::Nothing => bound,
-    }
-}
-
 // One instruction: its lanes' part, and its dst bound.
 fn run_instr(
     words: &[u32],
@@ -317,7 +306,7 @@ fn run_instr(
     Batch {
         lanes,
         mask: left,
-        bound: bind_variable(dst, bound),
+        bound: bound.bind_dst(dst),
         state: after,
     }
 }

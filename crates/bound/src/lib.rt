@@ -2,8 +2,10 @@
 ghost use mathlib.Core.Path.{_≡_};
 ghost use mathlib.Core.Option.{some};
 ghost use Prim.Native.Nat.{_<_};
+ghost use Rattle.instr.specs.Stands.{IsVariable, variableOf};
 ghost use Rattle.bound.specs.Bound.{has, firstBound, binding};
 use ids::Variable;
+use instr::Dst;
 
 // Which of the 32 variables are bound.
 pub struct Bound {
@@ -38,5 +40,16 @@ impl Bound {
         let x = words::size(v.0);
         self.known[x] = true;
         self
+    }
+
+    // With what an instruction binds.
+    pub fn bind_dst(self, dst: Dst) -> Self
+        requires { ⌜ IsVariable (variableOf dst) ⌝ }
+        ensures { λ r. ⌜ r ≡ binding (variableOf dst) self ⌝ }
+    {
+        match dst {
+            Dst::Var(v) => self.bind(v),
+            Dst::Nothing => self,
+        }
     }
 }

@@ -87,9 +87,9 @@ fn table(end: usize, words: &[u32], at: usize) -> Scan
     requires { ⌜ at < 2 ^ 32 ⌝ }
     ensures { λ r. ⌜ ((z : spec.Sizes) → scanOf r ≡ spec.scanTable end (now (words .entry)) z at) ⌝ }
 {
-    let keys = scan::size_at(words, at);
-    let vals = scan::size_at(words, at + 1);
-    let rows = scan::size_at(words, at + 3);
+    let keys = words::size_at(words, at);
+    let vals = words::size_at(words, at + 1);
+    let rows = words::size_at(words, at + 3);
     let width = keys + vals;
     if width == 0 {
         return Scan::Bad;
@@ -126,8 +126,8 @@ fn batch(end: usize, words: &[u32], sizes: Sizes, at: usize) -> Scan
     requires { ⌜ at < 2 ^ 32 ⌝ }
     ensures { λ r. ⌜ scanOf r ≡ spec.scanBatch end (now (words .entry)) (sizesOf sizes) at ⌝ }
 {
-    let lanes = scan::size_at(words, at + 1);
-    let columns = scan::size_at(words, at + 2);
+    let lanes = words::size_at(words, at + 1);
+    let columns = words::size_at(words, at + 2);
     let s = scan::word(end, words, Test::Below(sizes.rules), start(at));
     let t = scan::word(end, words, Test::UpTo(256), s);
     let u = scan::word(end, words, Test::UpTo(32), t);

@@ -63,7 +63,7 @@ fn all_bodies(words: &[u32]) -> Reading
     ensures { λ r. ⌜ refusalOf r ≡ bodiesRefusal (now (words .entry)) ⌝ }
 {
     let sizes = contents::sizes_of(words);
-    let n = scan::size_at(words, 0);
+    let n = words::size_at(words, 0);
     let mut i = 0;
     while i < n {
         let r = body(words, sizes, i);

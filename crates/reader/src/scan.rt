@@ -1,7 +1,6 @@
 // One walk over a body, word by word: refusals 3, 6 and 4.
 ghost use mathlib.Core.Path.{_≡_};
-ghost use Prim.Native.Nat.{_+_, _<_};
-ghost use lib.ListN.{getD};
+ghost use Prim.Native.Nat.{_+_};
 ghost use Rattle.model.specs.Book.Scan as spec;
 ghost use Rattle.reader.specs.Values.{drawOf, testOf, scanOf};
 use crate::reader;
@@ -83,13 +82,6 @@ fn mark(d: Draw, at: usize, next: usize, absent: usize, stale: usize) -> Scan
             stale: earliest(stale, at),
         },
     }
-}
-
-// The word at p, as a size.
-pub fn size_at(words: &[u32], p: usize) -> usize
-    ensures { λ r. ⌜ (r ≡ getD (now (words .entry)) p 0) × (r < 4294967296) ⌝ }
-{
-    words::size(words::word(words, p))
 }
 
 // The word that a walk stands at, 0 past the end.

@@ -196,19 +196,5 @@ pub fn bind_dst(i: Instr, bound: Bound) -> Bound
     requires { ⌜ IsVariable (bindsOf i) ⌝ }
     ensures { λ r. ⌜ r ≡ binding (bindsOf i) bound ⌝ }
 {
-    match i {
-        Instr::LookupOrInsertDefault { dst_var, .. } => bound.bind(dst_var),
-        Instr::LookupWithDefault { dst_var, .. } => bound.bind(dst_var),
-        Instr::Lookup { dst_var, .. } => bound.bind(dst_var),
-        Instr::LookupWithFallback { dst_var, .. } => bound.bind(dst_var),
-        Instr::Insert { .. } => bound,
-        Instr::InsertIfEq { .. } => bound,
-        Instr::Remove { .. } => bound,
-        Instr::External { dst, .. } => bound.bind(dst),
-        Instr::ExternalWithFallback { dst, .. } => bound.bind(dst),
-        Instr::AssertEq(..) => bound,
-        Instr::AssertNe(..) => bound,
-        Instr::AssertAnyNe { .. } => bound,
-        Instr::ReadCounter { dst, .. } => bound.bind(dst),
-    }
+    bound.bind_dst(i.dst())
 }

@@ -26,22 +26,15 @@ pub enum Place {
     InLog(usize),
 }
 
-// The word at p as a size or a place, 0 past the end.
-fn size_at(words: &[u32], p: usize) -> usize
-    ensures { λ r. ⌜ (r ≡ getD (now (words .entry)) p 0) × (r < 4294967296) ⌝ }
-{
-    words::size(words::word(words, p))
-}
-
 // Read from the book's words, where the table's body begins; of what is no table it says something or other.
 pub fn info_at(words: &[u32], body: usize) -> TableInfo
     requires { ⌜ body + 4 < 2 ^ 64 ⌝ }
     ensures { λ r. ⌜ r ≡ infoAt (now (words .entry)) body ⌝ }
 {
-    let keys = size_at(words, body);
-    let vals = size_at(words, body + 1);
+    let keys = words::size_at(words, body);
+    let vals = words::size_at(words, body + 1);
     let merge = words::word(words, body + 2);
-    let rows = size_at(words, body + 3);
+    let rows = words::size_at(words, body + 3);
     TableInfo {
         keys,
         width: keys + vals,
@@ -55,15 +48,15 @@ pub fn info_at(words: &[u32], body: usize) -> TableInfo
 pub fn info_of(words: &[u32], t: ids::TableId) -> TableInfo
     ensures { λ r. ⌜ r ≡ infoOf (now (words .entry)) (t .0) ⌝ }
 {
-    info_at(words, size_at(words, 2 + 3 * words::size(t.0)))
+    info_at(words, words::size_at(words, 2 + 3 * words::size(t.0)))
 }
 
 // How many rows it has.
 pub fn rows_of(words: &[u32], t: ids::TableId) -> usize
     ensures { λ r. ⌜ (r ≡ infoOf (now (words .entry)) (t .0) .rows) × (r < 4294967296) ⌝ }
 {
-    let body = size_at(words, 2 + 3 * words::size(t.0));
-    size_at(words, body + 3)
+    let body = words::size_at(words, 2 + 3 * words::size(t.0));
+    words::size_at(words, body + 3)
 }
 
 // The first k words of a row.

@@ -53,6 +53,13 @@ pub fn size(x: u32) -> usize
     x as usize
 }
 
+// The word at p as a size or a place, or 0 past the end.
+pub fn size_at(words: &[u32], p: usize) -> usize
+    ensures { λ r. ⌜ (r ≡ getD (now (words .entry)) p 0) × (r < 4294967296) ⌝ }
+{
+    size(word(words, p))
+}
+
 pub fn clear(buf: &mut [u32])
     ensures { λ _. ⌜ now (buf .exit) ≡ replicate (length (now (buf .entry))) 0 ⌝ }
 {

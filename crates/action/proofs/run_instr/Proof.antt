@@ -26,8 +26,8 @@ bind-column-requires c κs =
     let p = c .before .before .before .before .before .before .before .before .before .before .before .before .before .before .before .before .before .before .before .before .before .before .before .pre in
     (rw (c .before .before .dst .ensures) (binds-variable (now (a .words)) (a .i) (p .2)), p .4)
 
-bind-variable-requires : tie.Need-bind-variable-requires
-bind-variable-requires c κs =
+bind-dst-requires : tie.Need-bind-dst-requires
+bind-dst-requires c κs =
     let a = c .before .before .before .before .before .before .before .before .before .before .before .before .before .before .before .before .before .before .before .before .before .before .before .before .before .before .args in
     let p = c .before .before .before .before .before .before .before .before .before .before .before .before .before .before .before .before .before .before .before .before .before .before .before .before .before .before .pre in
     rw (c .before .before .before .before .before .dst .ensures) (binds-variable (now (a .words)) (a .i) (p .2))
@@ -47,7 +47,7 @@ returns c =
     let a = c .before .before .before .before .before .before .before .before .before .before .before .before .before .before .before .before .before .before .before .before .before .before .before .before .before .before .before .args in
     let e = c .before .before .before .before .before .before .before .before .before .before .before .before .before .before .act .ensures in
     let r : Running = record { batch = a .batch; bindings = now (a .bindings); log = now (a .log); index = now (a .index) } in
-    (rw (c .bind-variable .ensures, c .before .before .before .bind-column .ensures, c .before .before .before .before .before .before .dst .ensures) (ap (λ (l : Lanes). finished (bindsOf (a .i)) l r) (e .0)), e .1)
+    (rw (c .bind-dst .ensures, c .before .before .before .bind-column .ensures, c .before .before .before .before .before .before .dst .ensures) (ap (λ (l : Lanes). finished (bindsOf (a .i)) l r) (e .0)), e .1)
 
 pub run-instr-spec : {M : Type 1} → statement M
 run-instr-spec =
@@ -58,7 +58,7 @@ run-instr-spec =
     dst-requires
     slice-aggregate-bind-column
     bind-column-requires
-    bind-variable-requires
+    bind-dst-requires
     same-length
     same-length-2
     same-length-3

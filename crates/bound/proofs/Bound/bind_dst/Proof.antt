@@ -1,6 +1,6 @@
 use borrow.Author.Needs.{needs}
-use Rattle.action.proofs.bind_variable.Statement.{statement}
-use Rattle.action.proofs.bind_variable.Tie as tie
+use Rattle.bound.proofs.Bound.bind_dst.Statement.{statement}
+use Rattle.bound.proofs.Bound.bind_dst.Tie as tie
 
 enum-known-dst : tie.Need-enum-known-dst
 enum-known-dst c = search needs
@@ -17,5 +17,5 @@ returns c = rw (c .before .before .dst .given .1, c .bind .ensures)
 returns-2 : tie.Need-returns-2
 returns-2 c = search needs
 
-pub bind-variable-spec : {M : Type 1} → statement M
-bind-variable-spec = tie.close (tie.spec enum-known-dst bind-requires enum-told returns returns-2)
+pub bind-dst-spec : {M : Type 1} → statement M
+bind-dst-spec = tie.close (tie.spec enum-known-dst bind-requires enum-told returns returns-2)
