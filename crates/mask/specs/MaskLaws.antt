@@ -6,7 +6,6 @@ use mathlib.Core.Bool.{Bool, true, false, _||_, not, cond}
 use mathlib.Core.List.{List, [], _∷_, _++_}
 use native.Mathlib.Omega.{arith}
 use native.Mathlib.Decide.{decLt}
-use native.Mathlib.Nat.{add-zero, add-suc}
 use lib.Dec.{eqb, ltb, eqb·suc-zero}
 use lib.ListN.{length, getD, set, replicate, length-append, length-set, length-replicate, getD-replicate, List·getD-eq-default}
 use lib.Seq.{ext-getD, set-append-left, getD-set-same, getD-set-other}
@@ -15,7 +14,7 @@ use Rattle.model.specs.Basics.{when, howMany, tab}
 use Rattle.model.specs.Machine.Steps.{anyLive}
 use Rattle.model.specs.Laws.Logic.{either}
 use Rattle.model.specs.Laws.Lists.{length-tab, getD-tab}
-use Rattle.model.specs.Laws.Iter.{iter-agree}
+use Rattle.model.specs.Laws.Iter.{iter-agree, iter-rest}
 use Rattle.words.specs.Filled.{filled, filled-more, filled-all, getD-filled}
 use Rattle.mask.specs.Masks.{padded, firstLanes, both, count}
 
@@ -103,17 +102,12 @@ howMany-le p (suc n) = up (p n) (howMany p n) (howMany-le p n)
     up true x h = omega arith
     up false x h = omega arith
 
-howMany-past : (p : ℕ → Bool) (n k : ℕ) → ((i : ℕ) → n ≤ i → p i ≡ false) → howMany p (n + k) ≡ howMany p n
-howMany-past p n zero h = rw add-zero
-howMany-past p n (suc k) h = rw (add-suc, h (n + k) (omega arith)) (howMany-past p n k h)
-
 pub count-padded : (l : List Bool) → length l ≤ 256 → count (padded l) ≡ howMany (λ i. getD l i false) (length l)
 unfolding count
 count-padded l h =
-    let e : length (padded l) ≡ length l + (256 - length l) = omega (arith, length-padded l h) in
-    ap (λ (n : ℕ). howMany (λ i. getD (padded l) i false) n) e
-    ∙ iter-agree _ (λ i. when (getD l i false) suc) (length l + (256 - length l)) 0 (λ i a _. rw has-padded)
-    ∙ howMany-past (λ i. getD l i false) (length l) (256 - length l) (λ i k. List·getD-eq-default l false {n = i} k)
+    ap (λ (n : ℕ). howMany (λ i. getD (padded l) i false) n) (length-padded l h)
+    ∙ iter-agree (λ i. when (getD (padded l) i false) suc) (λ i. when (getD l i false) suc) 256 0 (λ i a _. rw has-padded)
+    ∙ sym (iter-rest (λ i. when (getD l i false) suc) (length l) 256 0 (howMany (λ i. getD l i false) (length l)) refl h (λ i k. rw (List·getD-eq-default l false {n = i} k)))
 
 swap : (a b : Bool) (x : ℕ) → when a suc (when b suc x) ≡ when b suc (when a suc x)
 swap true true x = refl

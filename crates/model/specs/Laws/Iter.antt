@@ -21,14 +21,15 @@ module _ {A : Type 0} where
   iter-agree f g zero s h = refl
   iter-agree f g (suc n) s h = h n (iter f n s) (omega arith) ∙ ap (g n) (iter-agree f g n s (λ i a l. h i a (omega arith)))
 
-  -- a state that no turn changes any more: for an early return
+  -- turns that change nothing any more can be left out
+  pub iter-rest : (f : ℕ → A → A) (k n : ℕ) (s now : A) → now ≡ iter f k s → k ≤ n → ((i : ℕ) → k ≤ i → f i now ≡ now) → now ≡ iter f n s
+  iter-rest f k zero s now e h stay = let z : k ≡ 0 = omega arith in e ∙ ap (λ (j : ℕ). iter f j s) z
+  iter-rest f k (suc n) s now e h stay =
+      either (λ l. sym (stay n (omega arith)) ∙ ap (f n) (iter-rest f k n s now e (omega arith) stay)) (λ q. e ∙ ap (λ (j : ℕ). iter f j s) q) (le-cases {m = k} {n = suc n} (omega arith))
+
+  -- a state that no turn changes: for an early return
   pub iter-stop : (f : ℕ → A → A) (k n : ℕ) (s now : A) → now ≡ iter f k s → k ≤ n → ((i : ℕ) → f i now ≡ now) → now ≡ iter f n s
-  iter-stop f k zero s now e h stay = let z : k ≡ 0 = omega arith in e ∙ ap (λ (j : ℕ). iter f j s) z
-  iter-stop f k (suc n) s now e h stay =
-      either (λ l. on (iter-stop f k n s now e (omega arith) stay)) (λ q. e ∙ ap (λ (j : ℕ). iter f j s) q) (le-cases {m = k} {n = suc n} (omega arith))
-    where
-      on : now ≡ iter f n s → now ≡ iter f (suc n) s
-      on q = sym (stay n) ∙ ap (f n) q
+  iter-stop f k n s now e h stay = iter-rest f k n s now e h (λ i _. stay i)
 
 -- not 0, not 1, .. not n: above n. For the last arm of a match
 pub above : (n x : ℕ) → (0 < x → n < x) → (x ≡ suc n → ⊥) → 0 < x → suc n < x
