@@ -1,10 +1,11 @@
 -- Laws of masks: what a lane is after each operation, and each operation on the marks of a batch.
-use Prim.Native.Nat.{ℕ, zero, suc, _+_, _-_, _≤_, _<_}
+use Prim.Native.Nat.{ℕ, zero, suc, _+_, _-_, _≤_, _<_, max}
 use mathlib.Core.Path.{_≡_, refl, sym, ap, _∙_}
 use mathlib.Core.Logic.{_⊎_, inl, inr}
 use mathlib.Core.Bool.{Bool, true, false, _||_, not, cond}
 use mathlib.Core.List.{List, [], _∷_, _++_}
 use native.Mathlib.Omega.{arith}
+use native.Mathlib.Numerals.{add-one}
 use native.Mathlib.Decide.{decLt}
 use lib.Dec.{eqb, ltb, eqb·suc-zero}
 use lib.ListN.{length, getD, set, replicate, length-append, length-set, length-replicate, getD-replicate, List·getD-eq-default}
@@ -12,11 +13,11 @@ use lib.Seq.{ext-getD, set-append-left, getD-set-same, getD-set-other}
 use borrow.Author.Tests.{lt-ltb, le-ltb, eqb-true, eqb-false}
 use Rattle.model.specs.Basics.{when, howMany, tab}
 use Rattle.model.specs.Machine.Steps.{anyLive}
-use Rattle.model.specs.Laws.Logic.{either}
+use Rattle.model.specs.Laws.Logic.{either, le-cases, when-ind}
 use Rattle.model.specs.Laws.Lists.{length-tab, getD-tab}
-use Rattle.model.specs.Laws.Iter.{iter-agree, iter-rest}
+use Rattle.model.specs.Laws.Iter.{iter-keeps, iter-agree, iter-rest}
 use Rattle.words.specs.Filled.{filled, filled-more, filled-all, getD-filled}
-use Rattle.mask.specs.Masks.{padded, firstLanes, both, count}
+use Rattle.mask.specs.Masks.{padded, firstLanes, both, count, pastLast, end}
 
 lt-or-le : (i n : ℕ) → (i < n) ⊎ (n ≤ i)
 lt-or-le i n = elim (decLt i n) [ yes p ↦ inl p | no p ↦ inr (omega arith) ]
@@ -26,6 +27,9 @@ lt-or-le i n = elim (decLt i n) [ yes p ↦ inl p | no p ↦ inr (omega arith) ]
 pub has-first : (n i : ℕ) → i < 256 → getD (firstLanes n) i false ≡ ltb i n
 unfolding firstLanes
 has-first n i h = getD-tab (λ i. ltb i n) 256 i false h
+
+pub none-first : (i : ℕ) → i < 256 → getD (firstLanes 0) i false ≡ false
+none-first i h = has-first 0 i h ∙ le-ltb i 0 (omega arith)
 
 -- with b for lane i: dropped or inserted
 pub has-set : (l : List Bool) (i j : ℕ) (b : Bool) → i < length l → getD (set l i b) j false ≡ cond (eqb j i) b (getD l j false)
@@ -77,7 +81,7 @@ first-padded n h = is-padded (firstLanes n) (replicate n true) (rw length-replic
 -- none of n lanes
 pub none-padded : (n : ℕ) → n ≤ 256 → firstLanes 0 ≡ padded (replicate n false)
 unfolding firstLanes
-none-padded n h = is-padded (firstLanes 0) (replicate n false) (rw length-replicate h) (length-tab (λ i. ltb i 0) 256) (λ i k. has-first 0 i k ∙ le-ltb i 0 (omega arith) ∙ sym (none-false n i))
+none-padded n h = is-padded (firstLanes 0) (replicate n false) (rw length-replicate h) (length-tab (λ i. ltb i 0) 256) (λ i k. none-first i k ∙ sym (none-false n i))
 
 pub both-padded : (f : Bool → Bool → Bool) (a b : List Bool) (n : ℕ) → f false false ≡ false → length a ≡ n → length b ≡ n → n ≤ 256 → both f (padded a) (padded b) ≡ padded (tab (λ i. f (getD a i false) (getD b i false)) n)
 unfolding both
@@ -138,6 +142,49 @@ any-padded l = more l (256 - length l)
     more [] (suc k) = more [] k
     more (b ∷ l) k = ap (λ (c : Bool). b || c) (more l k)
 
+-- ## The last live lane
+
+pastLast-le : (p : ℕ → Bool) (n : ℕ) → pastLast p n ≤ n
+pastLast-le p n = iter-keeps (λ e. e ≤ n) (λ i. when (p i) (λ _. suc i)) n 0 (omega arith) (λ i e h k. when-ind (λ e. e ≤ n) (p i) (λ _. suc i) e (λ _. h) k)
+
+none-past : (p : ℕ → Bool) (n i : ℕ) → i < n → pastLast p n ≤ i → p i ≡ false
+none-past p zero i h k = absurd (omega arith)
+none-past p (suc n) i h k = by (p n) refl k (none-past p n i)
+  where
+    by : (b : Bool) → p n ≡ b → when b (λ _. suc n) (pastLast p n) ≤ i → (i < n → pastLast p n ≤ i → p i ≡ false) → p i ≡ false
+    by true e k below = absurd (omega arith)
+    by false e k below = either (λ l. below l k) (λ l. rw l e) (le-cases h)
+
+last-true : (p : ℕ → Bool) (n i : ℕ) → pastLast p n ≡ suc i → p i ≡ true
+last-true p zero i e = absurd (omega arith)
+last-true p (suc n) i e = by (p n) refl e (last-true p n i)
+  where
+    by : (b : Bool) → p n ≡ b → when b (λ _. suc n) (pastLast p n) ≡ suc i → (pastLast p n ≡ suc i → p i ≡ true) → p i ≡ true
+    by true t e below = let q : n ≡ i = omega arith in rw q at t
+    by false t e below = below e
+
+pub end-le : (l : List Bool) → end l ≤ length l
+unfolding end
+end-le l = pastLast-le (λ i. getD l i false) (length l)
+
+-- the lane before it is live
+pub end-live : (l : List Bool) (i : ℕ) → end l ≡ suc i → getD l i false ≡ true
+unfolding end
+end-live l i e = last-true (λ i. getD l i false) (length l) i e
+
+-- from it on no lane is
+pub end-past : (l : List Bool) (i : ℕ) → end l ≤ i → getD l i false ≡ false
+unfolding end
+end-past l i h = either (λ k. none-past (λ i. getD l i false) (length l) i k h) (λ k. List·getD-eq-default l false {n = i} k) (lt-or-le i (length l))
+
+-- told by the last live lane, or by lane 0, which is not live where none is
+pub end-by : (l : List Bool) (i : ℕ) → i ≡ end l - 1 → cond (getD l i false) (i + 1) 0 ≡ end l
+end-by l i h = by (end l) refl h
+  where
+    by : (e : ℕ) → end l ≡ e → i ≡ e - 1 → cond (getD l i false) (i + 1) 0 ≡ e
+    by zero q h = rw (end-past l i (omega arith))
+    by (suc e) q h = rw (end-live l i (omega arith)) (omega arith)
+
 -- ## The loops
 
 -- a turn of a loop that puts f of two masks in place of the first
@@ -153,3 +200,11 @@ both-all f a b cur i e n h =
     let g : ℕ → Bool = λ (k : ℕ). f (getD a k false) (getD b k false) in
     let k : i ≡ length a = omega arith in
     e ∙ rw k (filled-all g a) ∙ ap (tab g) n
+
+-- a turn of the loop that finds the last live lane
+pub last-turn : (p : ℕ → Bool) (i last : ℕ) → last ≡ pastLast p i - 1 → max last (cond (p i) i 0) ≡ pastLast p (i + 1) - 1
+last-turn p i last h = rw add-one (by (p i))
+  where
+    by : (b : Bool) → max last (cond b i 0) ≡ when b (λ _. suc i) (pastLast p i) - 1
+    by true = omega (arith, pastLast-le p i)
+    by false = omega arith

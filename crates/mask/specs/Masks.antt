@@ -1,10 +1,10 @@
 -- Masks as lists of marks: whether lane i is live stands at i. A batch of the model has a mark for each of its lanes, and a mask has 256.
-use Prim.Native.Nat.{ℕ, _-_}
+use Prim.Native.Nat.{ℕ, suc, _-_}
 use mathlib.Core.Bool.{Bool, false, _&&_, _||_, not}
 use mathlib.Core.List.{List, _++_}
 use lib.Dec.{ltb}
 use lib.ListN.{length, getD, replicate}
-use Rattle.model.specs.Basics.{howMany, tab}
+use Rattle.model.specs.Basics.{iter, when, howMany, tab}
 
 -- marks filled up with false to 256
 unfoldable pub padded : List Bool → List Bool
@@ -30,3 +30,11 @@ without a b = both butNot a b
 -- how many lanes are live
 unfoldable pub count : List Bool → ℕ
 count l = howMany (λ i. getD l i false) (length l)
+
+-- the number past the last i below n with p i; 0 where there is none
+abbrev pub pastLast : (ℕ → Bool) → ℕ → ℕ
+pastLast p n = iter (λ i. when (p i) (λ _. suc i)) n 0
+
+-- the lane past the last live one
+unfoldable pub end : List Bool → ℕ
+end l = pastLast (λ i. getD l i false) (length l)

@@ -1,13 +1,28 @@
 // Which lanes of a batch are live: a mask by value, with a mark for each of 256 lanes.
 use ids::Lane;
 ghost use mathlib.Core.Path.{_≡_};
-ghost use mathlib.Core.Bool.{true, false, not};
+ghost use mathlib.Core.Bool.{true, false, not, cond};
+ghost use Prim.Native.Nat.{_≤_, max};
 ghost use lib.ListN.{getD, set};
 ghost use Rattle.model.specs.Machine.Steps.{anyLive};
-ghost use Rattle.mask.specs.Masks.{firstLanes, united, without, count};
+ghost use Rattle.mask.specs.Masks.{firstLanes, united, without, count, end};
 
 pub struct Mask {
     pub live: [bool; 256],
+}
+
+// A lane if it is live, else 0. A function of its own, as `later` is: so `end` compiles to a maximum of bytes, 16 lanes at once.
+fn marked(lane: u8, live: bool) -> u8
+    ensures is { λ r. ⌜ r ≡ cond live lane 0 ⌝ }
+    ensures within { λ r. ⌜ r ≤ lane ⌝ }
+{
+    if live { lane } else { 0 }
+}
+
+fn later(a: u8, b: u8) -> u8
+    ensures { λ r. ⌜ r ≡ max a b ⌝ }
+{
+    if a < b { b } else { a }
 }
 
 impl Mask {
@@ -93,6 +108,21 @@ impl Mask {
             i += 1;
         }
         n
+    }
+
+    // The lane past the last live one; 0 where none is.
+    pub fn end(self) -> usize
+        ensures is { λ r. ⌜ r ≡ end (self .live) ⌝ }
+        ensures within { λ r. ⌜ r ≤ 256 ⌝ }
+    {
+        let mut last: u8 = 0;
+        let mut i = 0;
+        while i < 256 {
+            last = later(last, marked(i as u8, self.live[i]));
+            i += 1;
+        }
+        let at = last as usize;
+        if self.live[at] { at + 1 } else { 0 }
     }
 
     pub fn is_empty(self) -> bool

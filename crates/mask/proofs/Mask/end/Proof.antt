@@ -1,0 +1,87 @@
+use Prim.Native.Nat.{_+_, _-_, _≤_}
+use mathlib.Core.Path.{_∙_, _≡_}
+use mathlib.Core.Bool.{false, cond}
+use native.Mathlib.Omega.{arith}
+use lib.ListN.{length, getD}
+use Rattle.mask.specs.Masks.{pastLast, end}
+use Rattle.mask.specs.MaskLaws.{end-by, last-turn}
+use borrow.Author.Needs.{needs}
+use Rattle.mask.proofs.Mask.end.Statement.{statement}
+use Rattle.mask.proofs.Mask.end.Tie as tie
+
+abbrev Inv-loop : tie.InvT-loop
+Inv-loop self last₀ i₀ last i = (i ≤ 256) × (last ≤ i - 1) × (last ≡ pastLast (λ k. getD (self .live) k false) i - 1)
+
+abbrev μ-loop : tie.MeasureT-loop
+μ-loop self last₀ i₀ last i = 256 - i
+
+loop-holds : tie.Need-loop-holds Inv-loop μ-loop
+loop-holds c = search needs
+
+cast-marked : tie.Need-cast-marked Inv-loop μ-loop
+cast-marked c = search needs
+
+element-copy-out-marked : tie.Need-element-copy-out-marked Inv-loop μ-loop
+element-copy-out-marked c = search needs
+
+marked-requires : tie.Need-marked-requires Inv-loop μ-loop
+marked-requires c κs = search needs
+
+later-requires : tie.Need-later-requires Inv-loop μ-loop
+later-requires c κs = search needs
+
+add-i : tie.Need-add-i Inv-loop μ-loop
+add-i c = search needs
+
+loop-less : tie.Need-loop-less Inv-loop μ-loop
+loop-less c = search needs
+
+loop-again : tie.Need-loop-again Inv-loop μ-loop
+loop-again c =
+    let l = c .before .before .before .before .loop in
+    let m = c .before .before .before .before .before .args .t1 .live in
+    (search needs, search needs, c .later .ensures ∙ rw (c .before .marked .ensures .0) (last-turn (λ k. getD m k false) (l .i) (l .last) (l .inv .2)))
+
+cast-at : tie.Need-cast-at Inv-loop μ-loop
+cast-at c = search needs
+
+element-copy-out-if1 : tie.Need-element-copy-out-if1 Inv-loop μ-loop
+element-copy-out-if1 c = search needs
+
+add-result : tie.Need-add-result Inv-loop μ-loop
+add-result c = search needs
+
+at-end : (c : tie.After-loop Inv-loop μ-loop) → cond (getD (c .before .before .args .t1 .live) (c .before .loop .last) false) (c .before .loop .last + 1) 0 ≡ end (c .before .before .args .t1 .live)
+unfolding end
+at-end c =
+    let l = c .before .loop in
+    let m = c .before .before .args .t1 .live in
+    let n : length m ≡ 256 = search needs in
+    let e : l .i ≡ length m = omega arith in
+    end-by m (l .last) (rw e at (l .inv .2))
+
+returns : tie.Need-returns Inv-loop μ-loop
+returns c = (rw (c .if1 .taken) at (at-end (c .before .before)), search needs)
+
+returns-2 : tie.Need-returns-2 Inv-loop μ-loop
+returns-2 c = (rw (c .if1 .left) at (at-end (c .before .before)), search needs)
+
+pub end-spec : {M : Type 1} → statement M
+end-spec =
+    tie.close
+    (tie.spec
+    Inv-loop
+    μ-loop
+    loop-holds
+    cast-marked
+    element-copy-out-marked
+    marked-requires
+    later-requires
+    add-i
+    loop-less
+    loop-again
+    cast-at
+    element-copy-out-if1
+    add-result
+    returns
+    returns-2)
