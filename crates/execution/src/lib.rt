@@ -119,9 +119,10 @@ pub fn stage_lanes(
     ensures is { λ r. ⌜ _≡_ {A = Logged} (record { state = r; log = now (log .exit) }) (stagedLanes (what .kind) (what .table .0) (λ i. listed (now (words .entry)) (now (bindings .entry)) i (what .vals)) (mask .live) (record { state = start; log = now (log .entry) })) ⌝ }
     ensures fits { λ r. ⌜ r .used ≤ length (now (log .entry)) ⌝ }
 {
+    let n = mask.end();
     let mut s = start;
     let mut i = 0;
-    while i < 256 {
+    while i < n {
         s = stage_lane(words, bindings, what, mask.live[i], Lane(i), s, log);
         i += 1;
     }

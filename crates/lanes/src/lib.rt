@@ -145,8 +145,9 @@ pub fn fill(
     ensures words { λ r. ⌜ now (out .exit) ≡ answeredWords (asked (now (words .entry)) (now (bindings .entry)) ask) (mask .live) (now (out .entry)) ⌝ }
 {
     let mut found = Mask::new(0);
+    let n = mask.end();
     let mut i = 0;
-    while i < 256 {
+    while i < n {
         let given = answer_live(words, committed, bindings, ask, mask.live[i], Lane(i));
         out[i] = word_or(given, out[i]);
         found.live[i] = is_word(given);
@@ -208,8 +209,9 @@ pub fn retain(words: &[u32], bindings: &[u32], test: Test, mask: Mask) -> Mask
     ensures { λ r. ⌜ r .live ≡ kept (holds (now (words .entry)) (now (bindings .entry)) test) (mask .live) ⌝ }
 {
     let mut left = Mask::new(0);
+    let n = mask.end();
     let mut i = 0;
-    while i < 256 {
+    while i < n {
         left.live[i] = passes_live(words, bindings, test, mask.live[i], Lane(i));
         i += 1;
     }

@@ -178,9 +178,10 @@ pub fn serve_lanes(
     ensures is { λ r. ⌜ _≡_ {A = Served} (record { state = r; log = now (log .exit); index = now (index .exit); out = now (out .exit) }) (servedLanes (now (words .entry)) (now (bindings .entry)) ask (mask .live) (record { state = start; log = now (log .entry); index = now (index .entry); out = now (out .entry) })) ⌝ }
     ensures fits { λ r. ⌜ r .used ≤ length (now (log .entry)) ⌝ }
 {
+    let n = mask.end();
     let mut s = start;
     let mut i = 0;
-    while i < 256 {
+    while i < n {
         s = serve_lane(
             words,
             bindings,

@@ -1,14 +1,14 @@
 -- A list of which the first n elements are replaced by f 0 .. f (n - 1): a loop that stores f i at i, for i from 0, takes `filled f i l` to `filled f (i + 1) l`.
 use mathlib.Core.Path.{_≡_, refl, sym, ap, _∙_}
 use mathlib.Core.List.{List, [], _∷_, _++_, append-nil}
-use Prim.Native.Nat.{ℕ, zero, suc, _+_, _*_, _<_, _≤_}
+use Prim.Native.Nat.{ℕ, zero, suc, _+_, _-_, _*_, _<_, _≤_}
 use native.Mathlib.Numerals.{add-one}
-use native.Mathlib.Nat.{add-zero}
+use native.Mathlib.Decide.{decLt}
 use native.Mathlib.Omega.{arith}
-use lib.ListN.{length, set, drop, take, getD, length-append, length-drop}
-use lib.Seq.{drop-cons, drop-length, set-at, append-snoc, take-at, length-take-le, length-front, getD-append-add, getD-drop}
+use lib.ListN.{length, set, drop, take, getD, length-append, length-drop, List·getD-append}
+use lib.Seq.{drop-cons, drop-length, set-at, append-snoc, take-at, length-take-le, length-front, getD-append-add, getD-drop, ext-getD}
 use Rattle.model.specs.Basics.{tab}
-use Rattle.model.specs.Laws.Lists.{length-tab}
+use Rattle.model.specs.Laws.Lists.{length-tab, getD-tab}
 
 module _ {A : Type 0} where
   abbrev pub filled : (ℕ → A) → ℕ → List A → List A
@@ -49,12 +49,21 @@ module _ {A : Type 0} where
   part-is n e d h g = take-at e (drop n d) n (h ∙ length-take-le n d g)
 
   -- what stands at n and beyond is as it was
+  getD-past : (f : ℕ → A) (n i : ℕ) (l : List A) (d : A) → n ≤ i → getD (filled f n l) i d ≡ getD l i d
+  getD-past f n i l d h =
+      let e : i ≡ length (tab f n) + (i - n) = omega (arith, length-tab f n) in
+      let g : n + (i - n) ≡ i = omega arith in
+      ap (λ (k : ℕ). getD (filled f n l) k d) e ∙ getD-append-add (tab f n) (drop n l) (i - n) d ∙ getD-drop n l (i - n) d ∙ ap (λ (k : ℕ). getD l k d) g
+
   pub getD-filled : (f : ℕ → A) (n : ℕ) (l : List A) (d : A) → getD (filled f n l) n d ≡ getD l n d
-  getD-filled f n l d =
-      ap (λ (k : ℕ). getD (filled f n l) k d) (sym (add-zero n) ∙ ap (λ (k : ℕ). k + 0) (sym (length-tab f n)))
-      ∙ getD-append-add (tab f n) (drop n l) 0 d
-      ∙ getD-drop n l 0 d
-      ∙ ap (λ (k : ℕ). getD l k d) (add-zero n)
+  getD-filled f n l d = getD-past f n n l d (omega arith)
+
+  -- where f is what stands at n and beyond, all are replaced
+  pub filled-rest : (f : ℕ → A) (n : ℕ) (l : List A) (d : A) → n ≤ length l → ((i : ℕ) → n ≤ i → i < length l → getD l i d ≡ f i) → filled f n l ≡ tab f (length l)
+  filled-rest f n l d h rest = ext-getD d (filled f n l) (tab f (length l)) (length-filled f n l h ∙ sym (length-tab f (length l))) (λ i k. at i (omega (arith, length-filled f n l h)) ∙ sym (getD-tab f (length l) i d (omega (arith, length-filled f n l h))))
+    where
+      at : (i : ℕ) → i < length l → getD (filled f n l) i d ≡ f i
+      at i k = elim (decLt i n) [ yes p ↦ List·getD-append (tab f n) (drop n l) d i (omega (arith, length-tab f n)) ∙ getD-tab f n i d p | no p ↦ getD-past f n i l d (omega arith) ∙ rest i (omega arith) k ]
 
   -- a turn of a loop that fills: cur is the list before the turn, and v is what is stored at i
   pub filled-turn : (f : ℕ → A) (i : ℕ) (l cur : List A) (v d : A) → cur ≡ filled f i l → v ≡ f i → i < length l → set cur i v ≡ filled f (i + 1) l

@@ -6,20 +6,24 @@ use lib.ListN.{length, getD}
 use Rattle.model.specs.Basics.{iter}
 use Rattle.model.specs.Laws.Iter.{iter-more}
 use Rattle.lanes.specs.Lanes.{listed}
+use Rattle.lanes.specs.PassLaws.{live-turns}
 use Rattle.execution.specs.Execution.{Logged, stagedLane, stagedLanes}
 use borrow.Author.Needs.{needs}
 use Rattle.execution.proofs.stage_lanes.Statement.{statement}
 use Rattle.execution.proofs.stage_lanes.Tie as tie
 
 abbrev Inv-loop : tie.InvT-loop
-Inv-loop words bindings what log₀ mask s₀ i₀ log s i =
-    (i ≤ 256)
+Inv-loop words bindings what log₀ mask n s₀ i₀ log s i =
+    (i ≤ n)
     × (length log ≡ length log₀)
     × (s .used ≤ length log₀)
     × (_≡_ {A = Logged} (record { state = s; log = log }) (iter (λ k. stagedLane (what .kind) (what .table .0) (listed words bindings k (what .vals)) (getD (mask .live) k false)) i (record { state = s₀; log = log₀ })))
 
 abbrev μ-loop : tie.MeasureT-loop
-μ-loop words bindings what log₀ mask s₀ i₀ log s i = 256 - i
+μ-loop words bindings what log₀ mask n s₀ i₀ log s i = n - i
+
+end-requires : tie.Need-end-requires Inv-loop μ-loop
+end-requires c κs = search needs
 
 loop-holds : tie.Need-loop-holds Inv-loop μ-loop
 loop-holds c = (search needs, refl, search needs, refl)
@@ -46,11 +50,11 @@ same-length : tie.Need-same-length Inv-loop μ-loop
 same-length c = search needs
 
 returns : tie.Need-returns Inv-loop μ-loop
-unfolding stagedLanes
+unfolding stagedLanes stagedLane
 returns c =
     let l = c .before .loop in
-    let e : l .i ≡ 256 = omega arith in
-    (rw e at (l .inv .3), l .inv .2)
+    let m = c .before .before .before .before .before .before .args .t4 .live in
+    (live-turns m (search needs) _ (l .i) _ _ (l .inv .3) (omega (arith, c .before .before .end .ensures .0)) (λ k q. rw q), l .inv .2)
 
 pub stage-lanes-spec : {M : Type 1} → statement M
 stage-lanes-spec =
@@ -58,6 +62,7 @@ stage-lanes-spec =
     (tie.spec
     Inv-loop
     μ-loop
+    end-requires
     loop-holds
     element-copy-out-stage-lane
     stage-lane-requires

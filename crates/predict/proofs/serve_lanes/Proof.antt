@@ -5,14 +5,15 @@ use native.Mathlib.Omega.{arith}
 use lib.ListN.{length, getD}
 use Rattle.model.specs.Basics.{iter}
 use Rattle.model.specs.Laws.Iter.{iter-more}
+use Rattle.lanes.specs.PassLaws.{live-turns}
 use Rattle.predict.specs.Predict.{Served, servedLane, servedLanes}
 use borrow.Author.Needs.{needs}
 use Rattle.predict.proofs.serve_lanes.Statement.{statement}
 use Rattle.predict.proofs.serve_lanes.Tie as tie
 
 abbrev Inv-loop : tie.InvT-loop
-Inv-loop words bindings ask log₀ index₀ out₀ mask s₀ i₀ log index out s i =
-    (i ≤ 256)
+Inv-loop words bindings ask log₀ index₀ out₀ mask n s₀ i₀ log index out s i =
+    (i ≤ n)
     × (length log ≡ length log₀)
     × (length index ≡ length index₀)
     × (length out ≡ length out₀)
@@ -20,7 +21,10 @@ Inv-loop words bindings ask log₀ index₀ out₀ mask s₀ i₀ log index out 
     × (_≡_ {A = Served} (record { state = s; log = log; index = index; out = out }) (iter (λ k. servedLane words bindings ask (getD (mask .live) k false) k) i (record { state = s₀; log = log₀; index = index₀; out = out₀ })))
 
 abbrev μ-loop : tie.MeasureT-loop
-μ-loop words bindings ask log₀ index₀ out₀ mask s₀ i₀ log index out s i = 256 - i
+μ-loop words bindings ask log₀ index₀ out₀ mask n s₀ i₀ log index out s i = n - i
+
+end-requires : tie.Need-end-requires Inv-loop μ-loop
+end-requires c κs = search needs
 
 loop-holds : tie.Need-loop-holds Inv-loop μ-loop
 loop-holds c = (search needs, refl, refl, refl, search needs, refl)
@@ -30,10 +34,10 @@ element-copy-out-serve-lane c = search needs
 
 serve-lane-requires : tie.Need-serve-lane-requires Inv-loop μ-loop
 serve-lane-requires c κs =
-    let p = c .before .before .before .before .before .before .before .before .before .before .before .pre in
+    let p = c .before .before .before .before .before .before .before .before .before .before .before .before .pre in
     let v = c .before .before .before .before .before .loop .inv in
     let r = p .2 in
-    (p .0, p .1, record { used = omega (arith, v .4, v .1); short = omega (arith, r .short, v .1); slots = v .2 ∙ r .slots }, omega (arith, c .before .before .before .before .loop-test .taken, p .3, v .3))
+    (p .0, p .1, record { used = omega (arith, v .4, v .1); short = omega (arith, r .short, v .1); slots = v .2 ∙ r .slots }, omega (arith, c .before .before .before .before .loop-test .taken, p .3, v .3, c .before .before .before .before .before .before .end .ensures .1))
 
 add-i : tie.Need-add-i Inv-loop μ-loop
 add-i c = search needs
@@ -64,11 +68,11 @@ same-length-3 : tie.Need-same-length-3 Inv-loop μ-loop
 same-length-3 c = search needs
 
 returns : tie.Need-returns Inv-loop μ-loop
-unfolding servedLanes
+unfolding servedLanes servedLane
 returns c =
     let l = c .before .loop in
-    let e : l .i ≡ 256 = omega arith in
-    (rw e at (l .inv .5), l .inv .4)
+    let m = c .before .before .before .before .before .before .before .before .args .t4 .live in
+    (live-turns m (search needs) _ (l .i) _ _ (l .inv .5) (omega (arith, c .before .before .end .ensures .0)) (λ k q. rw q), l .inv .4)
 
 pub serve-lanes-spec : {M : Type 1} → statement M
 serve-lanes-spec =
@@ -76,6 +80,7 @@ serve-lanes-spec =
     (tie.spec
     Inv-loop
     μ-loop
+    end-requires
     loop-holds
     element-copy-out-serve-lane
     serve-lane-requires
