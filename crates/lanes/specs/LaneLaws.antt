@@ -1,6 +1,6 @@
 -- What the code of the passes leans on.
 use Prim.Native.Nat.{ℕ, zero, suc, _+_, _-_, _≤_, _<_, min}
-use mathlib.Core.Path.{_≡_, refl, sym, ap, _∙_}
+use mathlib.Core.Path.{_≡_, refl, sym, _∙_}
 use mathlib.Core.Bool.{true, false}
 use mathlib.Core.List.{List, [], _∷_}
 use native.Mathlib.Omega.{arith}
@@ -8,9 +8,8 @@ use lib.ListN.{length, getD, take, drop, length-drop, length-take}
 use native.Mathlib.Numerals.{add-one}
 use lib.Seq.{getD-take, getD-drop, length-take-le}
 use borrow.Author.Tests.{eq-eqb, ne-eqb}
-use Rattle.model.specs.Basics.{tab}
 use Rattle.model.specs.Machine.Steps.{anyNe}
-use Rattle.words.specs.Filled.{filled, filled-all, getD-filled}
+use Rattle.words.specs.Filled.{filled, getD-filled}
 use Rattle.tables.specs.declared.TableInfo.{TableInfo}
 use Rattle.tables.specs.declared.Found.{Found}
 use Rattle.tables.specs.declared.Found.the-variants.{At, Nothing}
@@ -52,12 +51,6 @@ pairs-end (x ∷ xs) (y ∷ ys) zero h = absurd (omega arith)
 pairs-end (x ∷ xs) (y ∷ ys) (suc k) h = pairs-end xs ys k (omega arith)
 
 -- ## An array filled lane by lane
-
-module _ {A : Type 0} (f : ℕ → A) where
-  pub all-lanes : (l cur : List A) (i : ℕ) → cur ≡ filled f i l → length l ≡ 256 → i ≡ 256 → cur ≡ tab f 256
-  all-lanes l cur i e n h =
-      let k : i ≡ length l = h ∙ sym n in
-      e ∙ rw k (filled-all f l) ∙ ap (tab f) n
 
 -- the word of a lane that has none yet is the one from before
 pub word-before : (f : ℕ → ℕ) (i : ℕ) (l cur : List ℕ) → cur ≡ filled f i l → getD cur i 0 ≡ getD l i 0
