@@ -6,10 +6,10 @@ use lib.ListN.{set, replicate}
 use Rattle.model.specs.Basics.{iter}
 use Rattle.model.specs.Book.Decode.{part}
 use Rattle.tables.specs.declared.TableInfo.{TableInfo}
-use Rattle.tables.specs.Tables.{infoOf, rowAt}
+use Rattle.tables.specs.Tables.{infoOf, rowAt, foundRow}
 use Rattle.commit.specs.declared.Committed.{Committed}
 use Rattle.commit.specs.Rows.{Rows, appended}
-use Rattle.commit.specs.Walk.{removed, anyKey, inserted}
+use Rattle.commit.specs.Walk.{removed, isThere, inserted}
 
 module _ (w log : List ℕ) (t : ℕ) (i : TableInfo) where
   -- the row at `at` of table t, unless it is removed
@@ -20,10 +20,10 @@ module _ (w log : List ℕ) (t : ℕ) (i : TableInfo) where
   unfoldable pub kept : ℕ → Rows → Rows
   kept n s = iter (λ j. keepRow (rowAt i j)) n s
 
--- the same where `gone` says at which words of the log the keys of removed rows stand
-module _ (w log gone : List ℕ) (i : TableInfo) where
+-- the same where the removed keys are the rows `gone` of a table r
+module _ (w gone : List ℕ) (r i : TableInfo) where
   unfoldable pub spareRow : ℕ → Rows → Rows
-  spareRow at s = cond (anyKey log (i .keys) (part w at (i .keys)) gone) s (appended (part w at (i .width)) s)
+  spareRow at s = cond (isThere (foundRow gone r (part w at (i .width)))) s (appended (part w at (i .width)) s)
 
   unfoldable pub spared : ℕ → Rows → Rows
   spared n s = iter (λ j. spareRow (rowAt i j)) n s

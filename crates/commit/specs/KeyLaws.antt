@@ -1,60 +1,81 @@
--- The places where the keys of a table's removals stand: a row's key is at one of them where some record removes it.
-use Prim.Native.Nat.{ℕ, _+_, _<_, _≤_}
+-- The gathered keys of a table's removals: a row's key is one of them where some record removes it, and there is room for them where there is for the log.
+use Prim.Native.Nat.{ℕ, _+_, _*_, _<_, _≤_}
 use mathlib.Core.Path.{_≡_, refl, sym, ap, _∙_}
-use mathlib.Core.Bool.{Bool, true, false, _&&_, _||_, or-false, or-assoc}
-use mathlib.Core.List.{List, [], _∷_, _++_}
+use mathlib.Core.Bool.{Bool, true, false, _&&_, _||_, or-false}
+use mathlib.Core.Option.{Option, none, some}
+use mathlib.Core.List.{List, [], _++_}
 use native.Mathlib.Numerals.{add-one}
 use native.Mathlib.Omega.{arith}
-use lib.ListN.{length, getD, drop}
-use lib.Seq.{drop-cons}
-use Rattle.model.specs.Basics.{when, eqList}
+use lib.ListN.{length, take, drop, length-append, length-drop}
+use lib.Seq.{paste, take-paste, take-all, take-append-le, drop-append-le, drop-at}
+use Rattle.model.specs.Basics.{when, eqList, found, only, least}
 use Rattle.model.specs.Book.Decode.{part}
-use Rattle.model.specs.Laws.Logic.{All-append}
-use Rattle.tables.specs.Tables.{infoOf}
-use Rattle.commit.specs.Walk.{endOf, isRemoval, removeTurn, removed, gatherTurn, removalKeys, anyKey, Within}
-use Rattle.commit.specs.WalkLaws.{removal-end, walked-keeps, walked-along}
+use Rattle.model.specs.Laws.Iter.{iter-agree}
+use Rattle.model.specs.Laws.Bodies.{length-part}
+use Rattle.tables.specs.declared.Found.the-variants.{At, Nothing}
+use Rattle.tables.specs.Tables.{infoOf, front, sameWords, foundRow}
+use Rattle.tables.specs.TablesLaws.{next-row, row-within}
+use Rattle.commit.specs.Walk.{endOf, isRemoval, removeTurn, removed, Keys, withKey, gatherTurn, removedKeys, keyTable, isThere}
+use Rattle.commit.specs.WalkLaws.{end-after, removal-end, walked-both}
 
-module _ (log : List ℕ) (k : ℕ) (key : List ℕ) where
-  -- one place more
-  any-more : (ps : List ℕ) (q : ℕ) → anyKey log k key (ps ++ (q ∷ [])) ≡ anyKey log k key ps || eqList (part log q k) key
-  unfolding anyKey
-  any-more [] q = or-false (eqList (part log q k) key)
-  any-more (p ∷ ps) q = ap (λ (b : Bool). eqList (part log p k) key || b) (any-more ps q) ∙ sym (or-assoc (eqList (part log p k) key) (anyKey log k key ps) (eqList (part log q k) key))
+-- ## One key more
 
-  pub any-removed : (w : List ℕ) (t : ℕ) → anyKey log k key (removalKeys w log t) ≡ removed w log t k key
-  unfolding anyKey removalKeys removed
-  any-removed w t = walked-along (endOf w log) (length log) (gatherTurn log t) (removeTurn log t k key) (anyKey log k key) (λ p ps. one p ps (isRemoval log t p)) []
+-- each key has k words
+abbrev Whole : ℕ → Keys → Type 0
+Whole k s = length (s .words) ≡ s .count * k
+
+module _ (k : ℕ) (key : List ℕ) where
+  -- whether the key is one of them
+  abbrev pub among : Keys → Bool
+  among s = isThere (foundRow (s .words) (keyTable k (s .count)) key)
+
+  module _ (s : Keys) (x : List ℕ) (whole : Whole k s) (long : length x ≡ k) where
+    abbrev here : ℕ → Bool
+    here j = sameWords (s .words ++ x) (0 + j * k) key k
+
+    before : (j : ℕ) → j < s .count → here j ≡ sameWords (s .words) (0 + j * k) key k
+    unfolding sameWords
+    before j l =
+        let h : 0 + j * k + k ≤ length (s .words) = omega (arith, row-within j (s .count) k l) in
+        rw (drop-append-le (0 + j * k) (s .words) x (omega arith), take-append-le k (drop (0 + j * k) (s .words)) x (simp length-drop (omega arith)))
+
+    last : here (s .count) ≡ eqList x (front key k)
+    unfolding sameWords
+    last = rw (drop-at (s .words) x (0 + s .count * k) (omega arith), take-all k x (omega arith))
+
+    among-more : among (withKey x s) ≡ among s || eqList x (front key k)
+    unfolding foundRow
+    among-more = rw (add-one, iter-agree _ _ (s .count) none (λ j o l. ap (λ (b : Bool). found o some (λ _. only b (some j))) (before j l)), last) (by (least (λ j. sameWords (s .words) (0 + j * k) key k) (s .count)) (eqList x (front key k)))
+      where
+        by : (o : Option ℕ) (b : Bool) → isThere (found (found o some (λ _. only b (some (s .count)))) (λ j. At (0 + j * k)) (λ _. Nothing)) ≡ isThere (found o (λ j. At (0 + j * k)) (λ _. Nothing)) || b
+        by (some j) b = refl
+        by none true = refl
+        by none false = refl
+
+-- as it is stored past n others
+pub key-stored : (gone log : List ℕ) (p k n : ℕ) → p + 2 + k ≤ length log → n * k + k ≤ length gone → take ((n + 1) * k) (paste gone (n * k) (part log (p + 2) k) (length (part log (p + 2) k))) ≡ take (n * k) gone ++ part log (p + 2) k
+key-stored gone log p k n h l =
+    let long = length-part log (p + 2) k h in
+    rw (next-row n k, long, take-paste gone (n * k) (part log (p + 2) k) k (omega arith) (omega arith), take-all k (part log (p + 2) k) (omega arith))
+
+-- ## All of them
+
+module _ (w log : List ℕ) (t k : ℕ) (keys : k ≡ infoOf w t .keys) where
+  pub among-removed : (key : List ℕ) → among k key (removedKeys w log t k) ≡ removed w log t k (front key k)
+  unfolding removedKeys removed foundRow
+  among-removed key = walked-both (endOf w log) (length log) (gatherTurn log t k) (removeTurn log t k (front key k)) (λ s b. Whole k s × (among k key s ≡ b)) (λ p s b l r. one p s b l r (isRemoval log t p) refl) (record { words = []; count = 0 }) false (omega arith, refl) .1
     where
-      one : (p : ℕ) (ps : List ℕ) (b : Bool) → anyKey log k key (when b (λ qs. qs ++ ((p + 2) ∷ [])) ps) ≡ anyKey log k key ps || (b && eqList (part log (p + 2) k) key)
-      one p ps true = any-more ps (p + 2)
-      one p ps false = sym (or-false (anyKey log k key ps))
+      one : (p : ℕ) (s : Keys) (b : Bool) → endOf w log p ≤ length log → Whole k s × (among k key s ≡ b) → (c : Bool) → isRemoval log t p ≡ c → Whole k (when c (withKey (part log (p + 2) k)) s) × (among k key (when c (withKey (part log (p + 2) k)) s) ≡ b || (c && eqList (part log (p + 2) k) (front key k)))
+      one p s b l (whole, e) true q =
+          let x = part log (p + 2) k in
+          let long = length-part log (p + 2) k (omega (arith, removal-end w log p t q, keys, l)) in
+          (omega (arith, length-append (s .words) x, next-row (s .count) k), among-more k key s x whole long ∙ ap (λ (y : Bool). y || eqList x (front key k)) e)
+      one p s b l (whole, e) false q = (whole, e ∙ sym (or-false b))
 
--- ## The search
-
--- place i of some, and those past it
-module _ (log : List ℕ) (k : ℕ) (ps : List ℕ) (i : ℕ) (l : i < length ps) where
-  pub within-here : Within log k (drop i ps) → getD ps i 0 + k ≤ length log
-  within-here h = (rw (drop-cons ps i 0 l) at h) .0
-
-  pub within-next : Within log k (drop i ps) → Within log k (drop (i + 1) ps)
-  within-next h = rw add-one ((rw (drop-cons ps i 0 l) at h) .1)
-
-  module _ (key : List ℕ) where
-    pub any-here : eqList (part log (getD ps i 0) k) key ≡ true → anyKey log k key (drop i ps) ≡ true
-    unfolding anyKey
-    any-here e = rw (drop-cons ps i 0 l, e)
-
-    pub any-next : eqList (part log (getD ps i 0) k) key ≡ false → anyKey log k key (drop i ps) ≡ anyKey log k key (drop (i + 1) ps)
-    unfolding anyKey
-    any-next e = rw (drop-cons ps i 0 l, e, add-one)
-
--- ## What is gathered
-
--- a removal ends within the log, and its key with it
-pub keys-within : (w log : List ℕ) (t : ℕ) → Within log (infoOf w t .keys) (removalKeys w log t)
-unfolding removalKeys
-keys-within w log t = walked-keeps (endOf w log) (length log) (gatherTurn log t) (Within log (infoOf w t .keys)) (λ p ps l h. one p ps l h (isRemoval log t p) refl) [] tt
-  where
-    one : (p : ℕ) (ps : List ℕ) → endOf w log p ≤ length log → Within log (infoOf w t .keys) ps → (b : Bool) → isRemoval log t p ≡ b → Within log (infoOf w t .keys) (when b (λ qs. qs ++ ((p + 2) ∷ [])) ps)
-    one p ps l h true e = All-append (λ q. q + infoOf w t .keys ≤ length log) ps ((p + 2) ∷ []) h (omega (arith, removal-end w log p t e, l), tt)
-    one p ps l h false e = h
+  -- a removal has two words besides its key, and other records have two at least
+  pub gather-fits : (p : ℕ) (s : Keys) → s .count * k + 2 * s .count ≤ p → gatherTurn log t k p s .count * k + 2 * gatherTurn log t k p s .count ≤ endOf w log p
+  gather-fits p s h = by (isRemoval log t p) refl
+    where
+      by : (c : Bool) → isRemoval log t p ≡ c → when c (withKey (part log (p + 2) k)) s .count * k + 2 * when c (withKey (part log (p + 2) k)) s .count ≤ endOf w log p
+      by true q = omega (arith, removal-end w log p t q, keys, next-row (s .count) k)
+      by false q = omega (arith, end-after w log p)

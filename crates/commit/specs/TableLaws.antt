@@ -4,18 +4,19 @@ use mathlib.Core.Path.{_≡_, refl, ap, _∙_}
 use mathlib.Core.Bool.{Bool, true, false, cond}
 use mathlib.Core.List.{List}
 use native.Mathlib.Omega.{arith}
-use lib.ListN.{length}
+use lib.ListN.{length, drop}
+use lib.Seq.{take-take}
 use Rattle.model.specs.Book.Decode.{part}
 use Rattle.model.specs.Laws.Iter.{iter-keeps, iter-agree}
 use Rattle.model.specs.Laws.Bodies.{length-part}
 use Rattle.tables.specs.declared.TableInfo.{TableInfo}
-use Rattle.tables.specs.Tables.{infoOf, rowAt, RowsStand}
-use Rattle.tables.specs.TablesLaws.{row-within}
+use Rattle.tables.specs.Tables.{infoOf, rowAt, foundRow, RowsStand}
+use Rattle.tables.specs.TablesLaws.{front-take, row-within}
 use Rattle.commit.specs.Rows.{Rows, Sound, Stand, appended}
 use Rattle.commit.specs.RowLaws.{Keeps, append-keeps}
-use Rattle.commit.specs.Walk.{removed, removalKeys, anyKey, inserted}
+use Rattle.commit.specs.Walk.{removed, removedKeys, keyTable, isThere, inserted}
 use Rattle.commit.specs.WalkLaws.{inserted-keeps}
-use Rattle.commit.specs.KeyLaws.{any-removed}
+use Rattle.commit.specs.KeyLaws.{among, among-removed}
 use Rattle.commit.specs.Commit.{Left, keepRow, kept, spareRow, spared, begun, tableCommitted}
 
 -- a row that is kept unless b says that it is removed
@@ -27,14 +28,21 @@ keep-keeps : (w log : List ℕ) (t : ℕ) (i : TableInfo) (at : ℕ) (s : Rows) 
 unfolding keepRow
 keep-keeps w log t i at s h st = unless-keeps w i at s h st (removed w log t (i .keys) (part w at (i .keys)))
 
-pub spare-keeps : (w log gone : List ℕ) (i : TableInfo) (at : ℕ) (s : Rows) → at + i .width ≤ length w → Stand (i .width) s → Keeps (i .width) s (spareRow w log gone i at s)
+pub spare-keeps : (w gone : List ℕ) (r i : TableInfo) (at : ℕ) (s : Rows) → at + i .width ≤ length w → Stand (i .width) s → Keeps (i .width) s (spareRow w gone r i at s)
 unfolding spareRow
-spare-keeps w log gone i at s h st = unless-keeps w i at s h st (anyKey log (i .keys) (part w at (i .keys)) gone)
+spare-keeps w gone r i at s h st = unless-keeps w i at s h st (isThere (foundRow gone r (part w at (i .width))))
 
--- the rows that the removals' keys spare are those that no removal names
-pub spared-kept : (w log : List ℕ) (t : ℕ) (i : TableInfo) (n : ℕ) (s : Rows) → spared w log (removalKeys w log t) i n s ≡ kept w log t i n s
+-- the rows that the gathered keys spare are those that no removal names
+pub spared-kept : (w log : List ℕ) (t : ℕ) (i : TableInfo) (s : Rows) → i ≡ infoOf w t → RowsStand w i → spared w (removedKeys w log t (i .keys) .words) (keyTable (i .keys) (removedKeys w log t (i .keys) .count)) i (i .rows) s ≡ kept w log t i (i .rows) s
 unfolding spared kept spareRow keepRow
-spared-kept w log t i n s = iter-agree _ _ n s (λ j x l. ap (λ (b : Bool). cond b x (appended (part w (rowAt i j) (i .width)) x)) (any-removed log (i .keys) (part w (rowAt i j) (i .keys)) w t))
+spared-kept w log t i s e r = iter-agree _ _ (i .rows) s (λ j x l. ap (λ (b : Bool). cond b x (appended (part w (rowAt i j) (i .width)) x)) (same j l))
+  where
+    same : (j : ℕ) → j < i .rows → among (i .keys) (part w (rowAt i j) (i .width)) (removedKeys w log t (i .keys)) ≡ removed w log t (i .keys) (part w (rowAt i j) (i .keys))
+    same j l =
+        let n : rowAt i j + i .width ≤ length w = omega (arith, row-within j (i .rows) (i .width) l, r .stands .rows) in
+        let row = part w (rowAt i j) (i .width) in
+        among-removed w log t (i .keys) (ap (λ (x : TableInfo). x .keys) e) row
+        ∙ ap (removed w log t (i .keys)) (front-take row (i .keys) (omega (arith, length-part w (rowAt i j) (i .width) n, r .stands .keys)) ∙ take-take (i .keys) (i .width) (drop (rowAt i j) w) (r .stands .keys))
 
 pub kept-keeps : (w log : List ℕ) (t : ℕ) (i : TableInfo) (s : Rows) → RowsStand w i → Stand (i .width) s → Keeps (i .width) s (kept w log t i (i .rows) s)
 unfolding kept

@@ -1,12 +1,14 @@
 -- The log is walked record by record: which rows are removed, and which are put into a table.
-use Prim.Native.Nat.{ℕ, _+_, _*_, _^_, _<_, _≤_}
-use mathlib.Core.Bool.{Bool, false, _&&_, _||_, not, cond}
-use mathlib.Core.List.{List, [], _∷_, _++_}
+use Prim.Native.Nat.{ℕ, _+_}
+use mathlib.Core.Bool.{Bool, true, false, _&&_, _||_, not, cond}
+use mathlib.Core.List.{List, [], _++_}
 use lib.Dec.{eqb, leb}
 use lib.ListN.{length, getD}
-use Rattle.model.specs.Basics.{iter, when, eqList, All}
+use Rattle.model.specs.Basics.{iter, when, eqList}
 use Rattle.model.specs.Book.Decode.{part}
 use Rattle.tables.specs.declared.TableInfo.{TableInfo}
+use Rattle.tables.specs.declared.Found.{Found}
+use Rattle.tables.specs.declared.Found.the-variants.{At, Nothing}
 use Rattle.tables.specs.Tables.{infoOf}
 use Rattle.commit.specs.Rows.{Rows, putRow}
 
@@ -58,23 +60,24 @@ inserted w log t i s = walked (endOf w log) (length log) (insertRow log t i) s
 
 -- ## The keys of table t's removals
 
--- the words of the log at which they begin: asked of these, a row needs no walk of its own
-abbrev pub gatherTurn : List ℕ → ℕ → ℕ → List ℕ → List ℕ
-gatherTurn log t p ps = when (isRemoval log t p) (λ qs. qs ++ ((p + 2) ∷ [])) ps
+-- keys, one after the other, and how many there are: asked of these, a row needs no walk of its own
+pub record Keys : Type 0 where
+  pub words : List ℕ
+  pub count : ℕ
 
-unfoldable pub removalKeys : List ℕ → List ℕ → ℕ → List ℕ
-removalKeys w log t = walked (endOf w log) (length log) (gatherTurn log t) []
+abbrev pub withKey : List ℕ → Keys → Keys
+withKey key s = record { words = s .words ++ key; count = s .count + 1 }
 
--- whether the k words from some of these places on are the key
-unfoldable pub anyKey : List ℕ → ℕ → List ℕ → List ℕ → Bool
-anyKey log k key [] = false
-anyKey log k key (p ∷ ps) = eqList (part log p k) key || anyKey log k key ps
+abbrev pub gatherTurn : List ℕ → ℕ → ℕ → ℕ → Keys → Keys
+gatherTurn log t k p s = when (isRemoval log t p) (withKey (part log (p + 2) k)) s
 
--- k words from each of these places on stand in the log
-abbrev pub Within : List ℕ → ℕ → List ℕ → Type 0
-Within log k ps = All (λ p. p + k ≤ length log) ps
+unfoldable pub removedKeys : List ℕ → List ℕ → ℕ → ℕ → Keys
+removedKeys w log t k = walked (endOf w log) (length log) (gatherTurn log t k) (record { words = []; count = 0 })
 
--- `gone` has room for a place of each record, since a record has two words at least; and a place fits a word
-pub record Room (log gone : List ℕ) : Type 0 where
-  pub half : length log ≤ 2 * length gone
-  pub small : length log < 2 ^ 32
+-- the table whose rows are n keys of k words; whether a row was found there
+abbrev pub keyTable : ℕ → ℕ → TableInfo
+keyTable k n = record { keys = k; width = k; merge = 0; rows = n; at = 0 }
+
+abbrev pub isThere : Found → Bool
+isThere (At p) = true
+isThere Nothing = false

@@ -10,7 +10,7 @@ use lib.ListN.{length, getD}
 use Rattle.model.specs.Basics.{iter, when}
 use Rattle.model.specs.Book.Decode.{part}
 use Rattle.model.specs.Laws.Logic.{and-split}
-use Rattle.model.specs.Laws.Iter.{iter-more, iter-keeps, iter-stop}
+use Rattle.model.specs.Laws.Iter.{iter-more, iter-stop}
 use Rattle.model.specs.Laws.Bodies.{length-part}
 use Rattle.tables.specs.declared.TableInfo.{TableInfo}
 use Rattle.tables.specs.Tables.{infoOf}
@@ -71,35 +71,29 @@ module _ {A : Type 0} (end : ℕ → ℕ) (n : ℕ) (f : ℕ → A → A) (a : A
 
 -- ## All records
 
--- what holds at the start and is kept by each record that ends within n words
-module _ {A : Type 0} (end : ℕ → ℕ) (n : ℕ) (f : ℕ → A → A) (P : A → Type 0) (keeps : (p : ℕ) (x : A) → end p ≤ n → P x → P (f p x)) where
-  pub walked-keeps : (a : A) → P a → P (walked end n f a)
-  unfolding walked
-  walked-keeps a h = iter-keeps (λ (x : Walk A). P (x .state)) (pass end n f) n (start a) h (λ j x l k. one x k (leb (end (x .at)) n) refl)
+-- two walks over the same records: what holds of both at the start, and is kept by each record that ends within n words
+module _ {A B : Type 0} (end : ℕ → ℕ) (n : ℕ) (f : ℕ → A → A) (h : ℕ → B → B) (R : A → B → Type 0) (keeps : (p : ℕ) (x : A) (y : B) → end p ≤ n → R x y → R (f p x) (h p y)) where
+  abbrev Both : Walk A → Walk B → Type 0
+  Both s u = (s .at ≡ u .at) × R (s .state) (u .state)
+
+  both-pass : (i : ℕ) (s : Walk A) (u : Walk B) → Both s u → Both (pass end n f i s) (pass end n h i u)
+  both-pass i s u (e, r) = rw (← e) (by (leb (end (s .at)) n) refl)
     where
-      one : (x : Walk A) → P (x .state) → (b : Bool) → leb (end (x .at)) n ≡ b → P (cond b (record { at = end (x .at); state = f (x .at) (x .state) }) x .state)
-      one x k false e = k
-      one x k true e = keeps (x .at) (x .state) (leb-true (end (x .at)) n e) k
+      by : (b : Bool) → leb (end (s .at)) n ≡ b → Both (cond b (record { at = end (s .at); state = f (s .at) (s .state) }) s) (cond b (record { at = end (s .at); state = h (s .at) (u .state) }) (record { at = s .at; state = u .state }))
+      by true l = (refl, keeps (s .at) (s .state) (u .state) (leb-true (end (s .at)) n l) r)
+      by false l = (refl, r)
 
--- two walks over the same records, of which one always has g of what the other has
-module _ {A B : Type 0} (end : ℕ → ℕ) (n : ℕ) (f : ℕ → A → A) (h : ℕ → B → B) (g : A → B) (same : (p : ℕ) (x : A) → g (f p x) ≡ h p (g x)) where
-  abbrev along : Walk A → Walk B
-  along s = record { at = s .at; state = g (s .state) }
+  both-turns : (k : ℕ) (a : A) (b : B) → R a b → Both (iter (pass end n f) k (start a)) (iter (pass end n h) k (start b))
+  both-turns zero a b r = (refl, r)
+  both-turns (suc k) a b r = both-pass k (iter (pass end n f) k (start a)) (iter (pass end n h) k (start b)) (both-turns k a b r)
 
-  along-pass : (i : ℕ) (s : Walk A) → along (pass end n f i s) ≡ pass end n h i (along s)
-  along-pass i s = by (leb (end (s .at)) n)
-    where
-      by : (b : Bool) → along (cond b (record { at = end (s .at); state = f (s .at) (s .state) }) s) ≡ cond b (record { at = end (s .at); state = h (s .at) (g (s .state)) }) (along s)
-      by true = ap (λ (x : B). record { at = end (s .at); state = x }) (same (s .at) (s .state))
-      by false = refl
-
-  along-turns : (k : ℕ) (a : A) → along (iter (pass end n f) k (start a)) ≡ iter (pass end n h) k (start (g a))
-  along-turns zero a = refl
-  along-turns (suc k) a = along-pass k (iter (pass end n f) k (start a)) ∙ ap (pass end n h k) (along-turns k a)
-
-  pub walked-along : (a : A) → g (walked end n f a) ≡ walked end n h (g a)
+  pub walked-both : (a : A) (b : B) → R a b → R (walked end n f a) (walked end n h b)
   unfolding walked
-  walked-along a = ap (λ (s : Walk B). s .state) (along-turns n a)
+  walked-both a b r = both-turns n a b r .1
+
+-- the same of one
+walked-keeps : {A : Type 0} (end : ℕ → ℕ) (n : ℕ) (f : ℕ → A → A) (P : A → Type 0) → ((p : ℕ) (x : A) → end p ≤ n → P x → P (f p x)) → (a : A) → P a → P (walked end n f a)
+walked-keeps end n f P keeps a h = walked-both end n f f (λ x y. P x) (λ p x y l r. keeps p x l r) a a h
 
 -- ## What a record's row keeps
 

@@ -1,12 +1,12 @@
-// The log's records, one after the other: which rows they remove, and which they put into a table.
+// The log's records, one after the other: where each ends, and the rows that they put into a table.
 ghost use mathlib.Core.Path.{_≡_};
 ghost use mathlib.Core.Bool.{true};
-ghost use Prim.Native.Nat.{_+_, _^_, _<_, _≤_};
-ghost use lib.ListN.{length, take};
-ghost use Rattle.tables.specs.Tables.{infoOf, front};
+ghost use Prim.Native.Nat.{_+_, _≤_};
+ghost use lib.ListN.{length};
+ghost use Rattle.tables.specs.Tables.{infoOf};
 ghost use Rattle.commit.specs.Rows.{Rows, Sound, Stand};
 ghost use Rattle.commit.specs.Indexed.{IndexedRows};
-ghost use Rattle.commit.specs.Walk.{endOf, isInsertion, gatherTurn, removalKeys, anyKey, Within, Room, insertRow, inserted};
+ghost use Rattle.commit.specs.Walk.{endOf, isInsertion, insertRow, inserted};
 use crate::rows;
 use crate::rows::Part;
 use ids::TableId;
@@ -24,53 +24,6 @@ pub fn end_of(words: &[u32], log: &[u32], p: usize) -> usize
     } else {
         p + 2 + info.width
     }
-}
-
-// If the record at p is a removal of table t, the word at which its key begins is noted in `gone`, past the n that are there; and how many are there then.
-fn gather(log: &[u32], p: usize, t: TableId, gone: &mut [u32], n: usize) -> usize
-    requires { ⌜ (n < length (now gone)) × (p + 2 < 2 ^ 32) ⌝ }
-    ensures { λ r. ⌜ (r ≤ n + 1) × (take r (now (gone .exit)) ≡ gatherTurn (now (log .entry)) (t .0) p (take n (now (gone .entry)))) ⌝ }
-{
-    if words::word(log, p + 1) != t.0 {
-        return n;
-    }
-    if words::word(log, p) != 1 {
-        return n;
-    }
-    gone[n] = (p + 2) as u32;
-    n + 1
-}
-
-// The same for all records, in the log's order.
-pub fn removals(words: &[u32], log: &[u32], t: TableId, gone: &mut [u32]) -> usize
-    requires { ⌜ Room (now log) (now gone) ⌝ }
-    ensures { λ r. ⌜ (r ≤ length (now (gone .entry))) × (take r (now (gone .exit)) ≡ removalKeys (now (words .entry)) (now (log .entry)) (t .0)) ⌝ }
-{
-    let mut n = 0;
-    let mut p = 0;
-    let mut end = end_of(words, log, 0);
-    while end <= log.len() {
-        n = gather(log, p, t, gone, n);
-        p = end;
-        end = end_of(words, log, p);
-    }
-    n
-}
-
-// Whether the key, of k words, stands at one of the words `gone` of the log.
-pub fn any_key(log: &[u32], gone: &[u32], key: &[u32; 16], k: usize) -> bool
-    requires { ⌜ (k ≤ 16) × Within (now log) k (now gone) ⌝ }
-    ensures { λ r. ⌜ r ≡ anyKey (now (log .entry)) k (front (now (key .entry)) k) (now (gone .entry)) ⌝ }
-{
-    let n = gone.len();
-    let mut i = 0;
-    while i < n {
-        if tables::same_words(log, words::size(gone[i]), key, k) {
-            return true;
-        }
-        i += 1;
-    }
-    false
 }
 
 // The row of the record at p, if it is one of table t.

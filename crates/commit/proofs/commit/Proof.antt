@@ -14,7 +14,7 @@ use Rattle.commit.proofs.commit.Tie as tie
 
 abbrev Inv-loop : tie.InvT-loop
 Inv-loop words tables log rows₀ done₀ gone₀ t₀ rows done gone t =
-    (t ≤ tables) × (length gone ≡ 8192) × (length rows ≡ length rows₀) × (done .used ≤ length rows₀)
+    (t ≤ tables) × (length gone ≡ 16384) × (length rows ≡ length rows₀) × (done .used ≤ length rows₀)
     × (_≡_ {A = Left} (record { words = rows; result = done }) (iter (tableCommitted words log) t (record { words = rows₀; result = record { counts = replicate 16 0; used = 0; over = false } })))
 
 abbrev μ-loop : tie.MeasureT-loop
@@ -30,7 +30,7 @@ commit-table-requires : tie.Need-commit-table-requires Inv-loop μ-loop
 commit-table-requires c κs =
     let l = c .before .before .before .loop in
     let pre = c .before .before .before .before .before .before .before .pre in
-    (omega arith, pre .3 (l .t) (c .before .before .loop-test .taken), record { half = omega (arith, l .inv .1, pre .1); small = omega (arith, pre .1) }, omega (arith, l .inv .2, l .inv .3), omega (arith, pre .2, l .inv .2))
+    (omega arith, pre .3 (l .t) (c .before .before .loop-test .taken), omega (arith, l .inv .1, pre .1), pre .1, omega (arith, l .inv .2, l .inv .3), omega (arith, pre .2, l .inv .2))
 
 add-t : tie.Need-add-t Inv-loop μ-loop
 add-t c = search needs

@@ -36,26 +36,26 @@ keep-requires c κs =
     let a = c .before .before .before .before .before .before .before .args in
     let pre = c .before .before .before .before .before .before .before .pre in
     let e = c .before .before .info-of .ensures in
-    (e, subst (RowsStand (now (a .words))) (sym e) (pre .1), pre .2, record { used = omega arith; within = pre .3 })
+    (e, subst (RowsStand (now (a .words))) (sym e) (pre .1), pre .2, pre .3, record { used = omega arith; within = pre .4 })
 
 insert-rows-requires : tie.Need-insert-rows-requires
 insert-rows-requires c κs =
     let a = c .before .before .before .before .before .before .before .before .before .before .before .before .before .args in
     let pre = c .before .before .before .before .before .before .before .before .before .before .before .before .before .pre in
-    let k = old-keeps (now (a .words)) (now (a .log)) (a .t) (record { words = now (a .rows); result = a .t6 }) (pre .1) (pre .3) in
+    let k = old-keeps (now (a .words)) (now (a .log)) (a .t) (record { words = now (a .rows); result = a .t6 }) (pre .1) (pre .4) in
     let e = c .before .before .before .before .before .before .before .before .info-of .ensures in (
       e,
       subst Sound (sym e) (ready-sound (pre .1)),
       subst (λ (i : TableInfo). Stand (i .width) (record { words = c .before .before .before .before .before .keep .last .1 .1 .1 .1 .1 .0; part = c .before .before .before .before .before .keep .result })) (sym e) (subst (Stand ((infoOf (now (a .words)) (a .t)) .width)) (sym (old-is (c .before .before .before .before .before))) (k .0)),
-      omega (arith, ap (λ (s : Rows). length (s .words)) (old-is (c .before .before .before .before .before)), k .1, pre .4),
+      omega (arith, ap (λ (s : Rows). length (s .words)) (old-is (c .before .before .before .before .before)), k .1, pre .5),
     )
 
 cast-done-2 : tie.Need-cast-done-2
 cast-done-2 c =
     let a = c .before .before .before .before .before .before .before .before .before .before .before .before .before .before .before .before .before .args in
     let pre = c .before .before .before .before .before .before .before .before .before .before .before .before .before .before .before .before .before .pre in
-    let k = table-keeps (now (a .words)) (now (a .log)) (a .t) (record { words = now (a .rows); result = a .t6 }) (pre .1) (pre .3) in
-    omega (arith, few-rows (pre .1 .some) (k .0), k .1, ap (λ (s : Rows). s .part .count) (all-is (c .before .before .before)), pre .4)
+    let k = table-keeps (now (a .words)) (now (a .log)) (a .t) (record { words = now (a .rows); result = a .t6 }) (pre .1) (pre .4) in
+    omega (arith, few-rows (pre .1 .some) (k .0), k .1, ap (λ (s : Rows). s .part .count) (all-is (c .before .before .before)), pre .5)
 
 mul-done : tie.Need-mul-done
 mul-done c = search needs

@@ -1,0 +1,180 @@
+// A table's old rows that no removal of the log names. The keys that are removed are gathered once, as the rows of a table of their own, and each old row's key is looked up there: by an index, where that is sooner made than the keys are looked at.
+ghost use mathlib.Core.Path.{_≡_};
+ghost use mathlib.Core.Bool.{true};
+ghost use Prim.Native.Nat.{_+_, _*_, _≤_};
+ghost use lib.ListN.{length, take};
+ghost use Rattle.tables.specs.Tables.{infoOf, Stands, RowsStand};
+ghost use Rattle.hash_index.specs.Index.{IndexOf};
+ghost use Rattle.commit.specs.Rows.{Rows, Stand};
+ghost use Rattle.commit.specs.Walk.{isRemoval, Keys, gatherTurn, removedKeys, keyTable};
+ghost use Rattle.commit.specs.Commit.{kept, spareRow, spared};
+use crate::records;
+use crate::rows;
+use crate::rows::Part;
+use ids::TableId;
+use tables::Found;
+use tables::TableInfo;
+
+// If the record at p is a removal of table t, its key, of k words, is put into `gone`, past the n that are there; and how many are there then.
+fn gather(log: &[u32], p: usize, t: TableId, k: usize, gone: &mut [u32], n: usize) -> usize
+    requires { ⌜ (n * k + 2 * n ≤ p) × (p ≤ length (now log)) × (length (now log) ≤ length (now gone)) × (isRemoval (now log) (t .0) p ≡ true → p + 2 + k ≤ length (now log)) ⌝ }
+    ensures { λ r. ⌜ _≡_ {A = Keys} (record { words = take (r * k) (now (gone .exit)); count = r }) (gatherTurn (now (log .entry)) (t .0) k p (record { words = take (n * k) (now (gone .entry)); count = n })) ⌝ }
+{
+    if words::word(log, p + 1) != t.0 {
+        return n;
+    }
+    if words::word(log, p) != 1 {
+        return n;
+    }
+    let from = p + 2;
+    let end = from + k;
+    words::copy(&log[from..end], gone, n * k);
+    n + 1
+}
+
+// The same for all records, in the log's order. A removal has two words besides its key, so there is room for the keys where there is for the log.
+fn gather_all(words: &[u32], log: &[u32], t: TableId, k: usize, gone: &mut [u32]) -> usize
+    requires { ⌜ (k ≡ infoOf (now words) (t .0) .keys) × (length (now log) ≤ length (now gone)) ⌝ }
+    ensures { λ r. ⌜ (r * k + 2 * r ≤ length (now (log .entry))) × (_≡_ {A = Keys} (record { words = take (r * k) (now (gone .exit)); count = r }) (removedKeys (now (words .entry)) (now (log .entry)) (t .0) k)) ⌝ }
+{
+    let mut n = 0;
+    let mut p = 0;
+    let mut end = records::end_of(words, log, 0);
+    while end <= log.len() {
+        n = gather(log, p, t, k, gone, n);
+        p = end;
+        end = records::end_of(words, log, p);
+    }
+    n
+}
+
+// The table whose rows are n keys of k words.
+fn key_table(k: usize, n: usize) -> TableInfo
+    ensures { λ r. ⌜ r ≡ keyTable k n ⌝ }
+{
+    TableInfo {
+        keys: k,
+        width: k,
+        merge: 0,
+        rows: n,
+        at: 0,
+    }
+}
+
+// The old row that begins at `at`, unless its key is that of a row of the table `removed`, whose rows are the words `gone`. An empty index is none.
+fn keep_row(
+    words: &[u32],
+    gone: &[u32],
+    index: &[u32],
+    removed: TableInfo,
+    info: TableInfo,
+    at: usize,
+    rows: &mut [u32],
+    part: Part,
+) -> Part
+    requires { ⌜ RowsStand (now words) info × Stands (now gone) removed × IndexOf (now gone) removed (now index) × (removed .keys ≤ info .width) × (at + info .width ≤ length (now words)) × Stand (info .width) (record { words = now rows; part = part }) ⌝ }
+    ensures { λ r. ⌜ _≡_ {A = Rows} (record { words = now (rows .exit); part = r }) (spareRow (now (words .entry)) (now (gone .entry)) removed info at (record { words = now (rows .entry); part = part })) ⌝ }
+{
+    let width = info.width;
+    let row = &words[at..at + width];
+    let key = tables::key_of(row, removed.keys);
+    match hash_index::look_up(gone, index, removed, &key) {
+        Found::At(_) => part,
+        Found::Nothing => rows::append(rows, part, row),
+    }
+}
+
+// All of these rows.
+fn keep_all(
+    words: &[u32],
+    gone: &[u32],
+    index: &[u32],
+    removed: TableInfo,
+    info: TableInfo,
+    rows: &mut [u32],
+    start: Part,
+) -> Part
+    requires { ⌜ RowsStand (now words) info × Stands (now gone) removed × IndexOf (now gone) removed (now index) × (removed .keys ≤ info .width) × Stand (info .width) (record { words = now rows; part = start }) ⌝ }
+    ensures { λ r. ⌜ _≡_ {A = Rows} (record { words = now (rows .exit); part = r }) (spared (now (words .entry)) (now (gone .entry)) removed info (info .rows) (record { words = now (rows .entry); part = start })) ⌝ }
+{
+    let n = info.rows;
+    let width = info.width;
+    let mut at = info.at;
+    let mut part = start;
+    let mut i = 0;
+    while i < n {
+        part = keep_row(words, gone, index, removed, info, at, rows, part);
+        at += width;
+        i += 1;
+    }
+    part
+}
+
+// Whether there are keys and rows enough for an index.
+fn is_worth_it(keys: usize, rows: usize) -> bool {
+    if keys < 16 {
+        return false;
+    }
+    64 <= rows
+}
+
+// By an index that is made for it.
+fn keep_indexed(
+    words: &[u32],
+    gone: &[u32],
+    removed: TableInfo,
+    info: TableInfo,
+    rows: &mut [u32],
+    start: Part,
+) -> Part
+    requires { ⌜ RowsStand (now words) info × Stands (now gone) removed × (removed .rows ≤ 16384) × (removed .keys ≤ info .width) × Stand (info .width) (record { words = now rows; part = start }) ⌝ }
+    ensures { λ r. ⌜ _≡_ {A = Rows} (record { words = now (rows .exit); part = r }) (spared (now (words .entry)) (now (gone .entry)) removed info (info .rows) (record { words = now (rows .entry); part = start })) ⌝ }
+{
+    let mut index = [0u32; 18432];
+    hash_index::build(gone, removed, &mut index);
+    keep_all(words, gone, &index, removed, info, rows, start)
+}
+
+// By an index or, where there is little to look at, without one.
+fn keep_rows(
+    words: &[u32],
+    gone: &[u32],
+    removed: TableInfo,
+    info: TableInfo,
+    rows: &mut [u32],
+    start: Part,
+) -> Part
+    requires { ⌜ RowsStand (now words) info × Stands (now gone) removed × (removed .rows ≤ 16384) × (removed .keys ≤ info .width) × Stand (info .width) (record { words = now rows; part = start }) ⌝ }
+    ensures { λ r. ⌜ _≡_ {A = Rows} (record { words = now (rows .exit); part = r }) (spared (now (words .entry)) (now (gone .entry)) removed info (info .rows) (record { words = now (rows .entry); part = start })) ⌝ }
+{
+    if is_worth_it(removed.rows, info.rows) {
+        return keep_indexed(words, gone, removed, info, rows, start);
+    }
+    let none = [0u32; 0];
+    keep_all(words, gone, &none, removed, info, rows, start)
+}
+
+// A table's old rows that no removal names; `gone` is lent for the keys.
+pub fn keep(
+    words: &[u32],
+    log: &[u32],
+    t: TableId,
+    info: TableInfo,
+    gone: &mut [u32],
+    rows: &mut [u32],
+    start: Part,
+) -> Part
+    requires { ⌜ (info ≡ infoOf (now words) (t .0)) × RowsStand (now words) info × (length (now log) ≤ length (now gone)) × (length (now log) ≤ 16384) × Stand (info .width) (record { words = now rows; part = start }) ⌝ }
+    ensures { λ r. ⌜ _≡_ {A = Rows} (record { words = now (rows .exit); part = r }) (kept (now (words .entry)) (now (log .entry)) (t .0) info (info .rows) (record { words = now (rows .entry); part = start })) ⌝ }
+{
+    let n = gather_all(words, log, t, info.keys, gone);
+    let end = n * info.keys;
+    keep_rows(
+        words,
+        &gone[..end],
+        key_table(info.keys, n),
+        info,
+        rows,
+        start,
+    )
+}
