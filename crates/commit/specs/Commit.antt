@@ -1,5 +1,5 @@
 -- What the commit leaves: the words of all rows, table by table, and how many there are.
-use Prim.Native.Nat.{ℕ}
+use Prim.Native.Nat.{ℕ, _+_, _*_}
 use mathlib.Core.Bool.{false, cond}
 use mathlib.Core.List.{List}
 use lib.ListN.{set, replicate}
@@ -21,12 +21,13 @@ module _ (w log : List ℕ) (t : ℕ) (i : TableInfo) where
   kept n s = iter (λ j. keepRow (rowAt i j)) n s
 
 -- the same where the removed keys are the rows `gone` of a table r
-module _ (w gone : List ℕ) (r i : TableInfo) where
-  unfoldable pub spareRow : ℕ → Rows → Rows
-  spareRow at s = cond (isThere (foundRow gone r (part w at (i .width)))) s (appended (part w at (i .width)) s)
+module _ (gone : List ℕ) (r : TableInfo) where
+  unfoldable pub spareRow : List ℕ → Rows → Rows
+  spareRow row s = cond (isThere (foundRow gone r row)) s (appended row s)
 
-  unfoldable pub spared : ℕ → Rows → Rows
-  spared n s = iter (λ j. spareRow (rowAt i j)) n s
+  -- n rows of so many words, the first at `at`
+  unfoldable pub spared : List ℕ → ℕ → ℕ → ℕ → Rows → Rows
+  spared w at width n s = iter (λ j. spareRow (part w (at + j * width) width)) n s
 
 -- the words lent for rows, and the answer
 pub record Left : Type 0 where

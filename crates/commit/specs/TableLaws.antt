@@ -20,20 +20,20 @@ use Rattle.commit.specs.KeyLaws.{among, among-removed}
 use Rattle.commit.specs.Commit.{Left, keepRow, kept, spareRow, spared, begun, tableCommitted}
 
 -- a row that is kept unless b says that it is removed
-unless-keeps : (w : List ℕ) (i : TableInfo) (at : ℕ) (s : Rows) → at + i .width ≤ length w → Stand (i .width) s → (b : Bool) → Keeps (i .width) s (cond b s (appended (part w at (i .width)) s))
-unless-keeps w i at s h st true = (st, refl)
-unless-keeps w i at s h st false = append-keeps (part w at (i .width)) (length-part w at (i .width) h) s st
+unless-keeps : (row : List ℕ) {width : ℕ} → length row ≡ width → (s : Rows) → Stand width s → (b : Bool) → Keeps width s (cond b s (appended row s))
+unless-keeps row len s st true = (st, refl)
+unless-keeps row len s st false = append-keeps row len s st
 
 keep-keeps : (w log : List ℕ) (t : ℕ) (i : TableInfo) (at : ℕ) (s : Rows) → at + i .width ≤ length w → Stand (i .width) s → Keeps (i .width) s (keepRow w log t i at s)
 unfolding keepRow
-keep-keeps w log t i at s h st = unless-keeps w i at s h st (removed w log t (i .keys) (part w at (i .keys)))
+keep-keeps w log t i at s h st = unless-keeps (part w at (i .width)) (length-part w at (i .width) h) s st (removed w log t (i .keys) (part w at (i .keys)))
 
-pub spare-keeps : (w gone : List ℕ) (r i : TableInfo) (at : ℕ) (s : Rows) → at + i .width ≤ length w → Stand (i .width) s → Keeps (i .width) s (spareRow w gone r i at s)
+pub spare-keeps : (gone : List ℕ) (r : TableInfo) (row : List ℕ) {width : ℕ} → length row ≡ width → (s : Rows) → Stand width s → Keeps width s (spareRow gone r row s)
 unfolding spareRow
-spare-keeps w gone r i at s h st = unless-keeps w i at s h st (isThere (foundRow gone r (part w at (i .width))))
+spare-keeps gone r row len s st = unless-keeps row len s st (isThere (foundRow gone r row))
 
 -- the rows that the gathered keys spare are those that no removal names
-pub spared-kept : (w log : List ℕ) (t : ℕ) (i : TableInfo) (s : Rows) → i ≡ infoOf w t → RowsStand w i → spared w (removedKeys w log t (i .keys) .words) (keyTable (i .keys) (removedKeys w log t (i .keys) .count)) i (i .rows) s ≡ kept w log t i (i .rows) s
+pub spared-kept : (w log : List ℕ) (t : ℕ) (i : TableInfo) (s : Rows) → i ≡ infoOf w t → RowsStand w i → spared (removedKeys w log t (i .keys) .words) (keyTable (i .keys) (removedKeys w log t (i .keys) .count)) w (i .at) (i .width) (i .rows) s ≡ kept w log t i (i .rows) s
 unfolding spared kept spareRow keepRow
 spared-kept w log t i s e r = iter-agree _ _ (i .rows) s (λ j x l. ap (λ (b : Bool). cond b x (appended (part w (rowAt i j) (i .width)) x)) (same j l))
   where

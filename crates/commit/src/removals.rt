@@ -6,7 +6,7 @@ ghost use lib.ListN.{length, take};
 ghost use Rattle.tables.specs.Tables.{infoOf, Stands, RowsStand};
 ghost use Rattle.hash_index.specs.Index.{IndexOf};
 ghost use Rattle.commit.specs.Rows.{Rows, Stand};
-ghost use Rattle.commit.specs.Walk.{isRemoval, Keys, gatherTurn, removedKeys, keyTable};
+ghost use Rattle.commit.specs.Walk.{isRemoval, Keys, gatherTurn, removedKeys};
 ghost use Rattle.commit.specs.Commit.{kept, spareRow, spared};
 use crate::records;
 use crate::rows;
@@ -48,35 +48,18 @@ fn gather_all(words: &[u32], log: &[u32], t: TableId, k: usize, gone: &mut [u32]
     n
 }
 
-// The table whose rows are n keys of k words.
-fn key_table(k: usize, n: usize) -> TableInfo
-    ensures { λ r. ⌜ r ≡ keyTable k n ⌝ }
-{
-    TableInfo {
-        keys: k,
-        width: k,
-        merge: 0,
-        rows: n,
-        at: 0,
-    }
-}
-
-// The old row that begins at `at`, unless its key is that of a row of the table `removed`, whose rows are the words `gone`. An empty index is none.
+// An old row, unless its key is that of a row of the table `removed`, whose rows are the words `gone`. An empty index is none.
 fn keep_row(
-    words: &[u32],
+    row: &[u32],
     gone: &[u32],
     index: &[u32],
     removed: TableInfo,
-    info: TableInfo,
-    at: usize,
     rows: &mut [u32],
     part: Part,
 ) -> Part
-    requires { ⌜ RowsStand (now words) info × Stands (now gone) removed × IndexOf (now gone) removed (now index) × (removed .keys ≤ info .width) × (at + info .width ≤ length (now words)) × Stand (info .width) (record { words = now rows; part = part }) ⌝ }
-    ensures { λ r. ⌜ _≡_ {A = Rows} (record { words = now (rows .exit); part = r }) (spareRow (now (words .entry)) (now (gone .entry)) removed info at (record { words = now (rows .entry); part = part })) ⌝ }
+    requires { ⌜ Stands (now gone) removed × IndexOf (now gone) removed (now index) × (removed .keys ≤ length (now row)) × (part .used ≤ length (now rows)) × (part .count ≤ length (now rows)) ⌝ }
+    ensures { λ r. ⌜ _≡_ {A = Rows} (record { words = now (rows .exit); part = r }) (spareRow (now (gone .entry)) removed (now (row .entry)) (record { words = now (rows .entry); part = part })) ⌝ }
 {
-    let width = info.width;
-    let row = &words[at..at + width];
     let key = tables::key_of(row, removed.keys);
     match hash_index::look_up(gone, index, removed, &key) {
         Found::At(_) => part,
@@ -84,7 +67,7 @@ fn keep_row(
     }
 }
 
-// All of these rows.
+// The same of all rows of the table `info`, which stand in `words`.
 fn keep_all(
     words: &[u32],
     gone: &[u32],
@@ -95,7 +78,7 @@ fn keep_all(
     start: Part,
 ) -> Part
     requires { ⌜ RowsStand (now words) info × Stands (now gone) removed × IndexOf (now gone) removed (now index) × (removed .keys ≤ info .width) × Stand (info .width) (record { words = now rows; part = start }) ⌝ }
-    ensures { λ r. ⌜ _≡_ {A = Rows} (record { words = now (rows .exit); part = r }) (spared (now (words .entry)) (now (gone .entry)) removed info (info .rows) (record { words = now (rows .entry); part = start })) ⌝ }
+    ensures { λ r. ⌜ _≡_ {A = Rows} (record { words = now (rows .exit); part = r }) (spared (now (gone .entry)) removed (now (words .entry)) (info .at) (info .width) (info .rows) (record { words = now (rows .entry); part = start })) ⌝ }
 {
     let n = info.rows;
     let width = info.width;
@@ -103,8 +86,9 @@ fn keep_all(
     let mut part = start;
     let mut i = 0;
     while i < n {
-        part = keep_row(words, gone, index, removed, info, at, rows, part);
-        at += width;
+        let end = at + width;
+        part = keep_row(&words[at..end], gone, index, removed, rows, part);
+        at = end;
         i += 1;
     }
     part
@@ -128,33 +112,14 @@ fn keep_indexed(
     start: Part,
 ) -> Part
     requires { ⌜ RowsStand (now words) info × Stands (now gone) removed × (removed .rows ≤ 16384) × (removed .keys ≤ info .width) × Stand (info .width) (record { words = now rows; part = start }) ⌝ }
-    ensures { λ r. ⌜ _≡_ {A = Rows} (record { words = now (rows .exit); part = r }) (spared (now (words .entry)) (now (gone .entry)) removed info (info .rows) (record { words = now (rows .entry); part = start })) ⌝ }
+    ensures { λ r. ⌜ _≡_ {A = Rows} (record { words = now (rows .exit); part = r }) (spared (now (gone .entry)) removed (now (words .entry)) (info .at) (info .width) (info .rows) (record { words = now (rows .entry); part = start })) ⌝ }
 {
     let mut index = [0u32; 18432];
     hash_index::build(gone, removed, &mut index);
     keep_all(words, gone, &index, removed, info, rows, start)
 }
 
-// By an index or, where there is little to look at, without one.
-fn keep_rows(
-    words: &[u32],
-    gone: &[u32],
-    removed: TableInfo,
-    info: TableInfo,
-    rows: &mut [u32],
-    start: Part,
-) -> Part
-    requires { ⌜ RowsStand (now words) info × Stands (now gone) removed × (removed .rows ≤ 16384) × (removed .keys ≤ info .width) × Stand (info .width) (record { words = now rows; part = start }) ⌝ }
-    ensures { λ r. ⌜ _≡_ {A = Rows} (record { words = now (rows .exit); part = r }) (spared (now (words .entry)) (now (gone .entry)) removed info (info .rows) (record { words = now (rows .entry); part = start })) ⌝ }
-{
-    if is_worth_it(removed.rows, info.rows) {
-        return keep_indexed(words, gone, removed, info, rows, start);
-    }
-    let none = [0u32; 0];
-    keep_all(words, gone, &none, removed, info, rows, start)
-}
-
-// A table's old rows that no removal names; `gone` is lent for the keys.
+// A table's old rows that no removal names. `gone` is lent for the removed keys: a table's rows, of which no word is a value.
 pub fn keep(
     words: &[u32],
     log: &[u32],
@@ -169,12 +134,16 @@ pub fn keep(
 {
     let n = gather_all(words, log, t, info.keys, gone);
     let end = n * info.keys;
-    keep_rows(
-        words,
-        &gone[..end],
-        key_table(info.keys, n),
-        info,
-        rows,
-        start,
-    )
+    let removed = TableInfo {
+        keys: info.keys,
+        width: info.keys,
+        merge: 0,
+        rows: n,
+        at: 0,
+    };
+    if is_worth_it(n, info.rows) {
+        return keep_indexed(words, &gone[..end], removed, info, rows, start);
+    }
+    let none = [0u32; 0];
+    keep_all(words, &gone[..end], &none, removed, info, rows, start)
 }

@@ -1,5 +1,6 @@
 use Prim.Native.Nat.{_*_, _≤_}
-use mathlib.Core.Path.{sym, ap, _∙_, subst}
+use mathlib.Core.Path.{_≡_, refl, sym, ap, _∙_}
+use mathlib.Core.Logic.{inl}
 use native.Mathlib.Omega.{arith}
 use lib.ListN.{length, take}
 use lib.Seq.{length-take-le}
@@ -8,43 +9,43 @@ use Rattle.tables.specs.declared.TableInfo.{TableInfo}
 use Rattle.tables.specs.Tables.{Stands}
 use Rattle.commit.specs.Rows.{Rows}
 use Rattle.commit.specs.Walk.{Keys, keyTable}
-use Rattle.commit.specs.Commit.{spared}
+use Rattle.commit.specs.Commit.{kept, spared}
 use Rattle.commit.specs.TableLaws.{spared-kept}
 use borrow.Author.Needs.{needs}
 use Rattle.commit.proofs.removals.keep.Statement.{statement}
 use Rattle.commit.proofs.removals.keep.Tie as tie
 
--- the gathered keys have room
+-- the gathered keys have room, and stand there as rows
 fits : (c : tie.After-gather-all) → c .gather-all .result * c .before .before .before .before .before .before .args .info .keys ≤ length (c .gather-all .last .1 .1 .1 .1 .0)
 fits c = omega (arith, c .gather-all .ensures .0, c .gather-all .kept .1 .1 .1 .1 .0, c .before .before .before .before .before .before .pre .2)
+
+stand : (c : tie.After-gather-all) → Stands (take (c .gather-all .result * c .before .before .before .before .before .before .args .info .keys) (c .gather-all .last .1 .1 .1 .1 .0)) (keyTable (c .before .before .before .before .before .before .args .info .keys) (c .gather-all .result))
+stand c = record { rows = omega (arith, length-take-le (c .gather-all .result * c .before .before .before .before .before .before .args .info .keys) (c .gather-all .last .1 .1 .1 .1 .0) (fits c)); keys = omega arith; few = c .before .before .before .before .before .before .pre .1 .stands .few }
+
+-- the rows that they spare are those that are kept
+rows-kept : (c : tie.After-gather-all) (s : Rows) → spared (take (c .gather-all .result * c .before .before .before .before .before .before .args .info .keys) (c .gather-all .last .1 .1 .1 .1 .0)) (keyTable (c .before .before .before .before .before .before .args .info .keys) (c .gather-all .result)) (now (c .before .before .before .before .before .before .args .words)) (c .before .before .before .before .before .before .args .info .at) (c .before .before .before .before .before .before .args .info .width) (c .before .before .before .before .before .before .args .info .rows) s ≡ kept (now (c .before .before .before .before .before .before .args .words)) (now (c .before .before .before .before .before .before .args .log)) (c .before .before .before .before .before .before .args .t .0) (c .before .before .before .before .before .before .args .info) (c .before .before .before .before .before .before .args .info .rows) s
+rows-kept c s =
+    let a = c .before .before .before .before .before .before .args in
+    ap (λ (x : Keys). spared (x .words) (keyTable (a .info .keys) (x .count)) (now (a .words)) (a .info .at) (a .info .width) (a .info .rows) s) (c .gather-all .ensures .1)
+    ∙ spared-kept (now (a .words)) (now (a .log)) (a .t .0) (a .info) s (c .before .before .before .before .before .before .pre .0) (c .before .before .before .before .before .before .pre .1)
 
 gather-all-requires : tie.Need-gather-all-requires
 gather-all-requires c κs = let p = c .before .before .before .before .before .pre in (ap (λ (i : TableInfo). i .keys) (p .0), p .2)
 
 mul-end : tie.Need-mul-end
-mul-end c = omega (arith, c .before .before .before .gather-all .ensures .0, c .before .before .before .before .before .before .before .before .before .pre .3)
+mul-end c = search needs
 
-slice-reshare-prefix-keep-rows : tie.Need-slice-reshare-prefix-keep-rows
-slice-reshare-prefix-keep-rows c = fits (c .before .before .before)
+is-worth-it-requires : tie.Need-is-worth-it-requires
+is-worth-it-requires c κs = search needs
 
-slice-aggregate-keep-rows : tie.Need-slice-aggregate-keep-rows
-slice-aggregate-keep-rows c = sym (length-take-le _ _ (fits (c .before .before .before .before)))
+slice-reshare-prefix-keep-indexed : tie.Need-slice-reshare-prefix-keep-indexed
+slice-reshare-prefix-keep-indexed c = fits (c .before .before .before .before .before)
 
-key-table-requires : tie.Need-key-table-requires
-key-table-requires c κs = search needs
+slice-aggregate-keep-indexed : tie.Need-slice-aggregate-keep-indexed
+slice-aggregate-keep-indexed c = sym (length-take-le _ _ (fits (c .before .before .before .before .before .before)))
 
-keep-rows-requires : tie.Need-keep-rows-requires
-keep-rows-requires c κs =
-    let a = c .before .before .before .before .before .before .before .before .before .before .before .before .args in
-    let p = c .before .before .before .before .before .before .before .before .before .before .before .before .pre in
-    let r = c .before .before .before .before .before .before .gather-all in
-    let e = sym (c .before .key-table .ensures) in (
-      p .1,
-      subst (Stands (take (r .result * a .info .keys) (r .last .1 .1 .1 .1 .0))) e (record { rows = omega (arith, length-take-le (r .result * a .info .keys) (r .last .1 .1 .1 .1 .0) (fits (c .before .before .before .before .before .before))); keys = omega arith; few = p .1 .stands .few }),
-      subst (λ (x : TableInfo). x .rows ≤ 16384) e (omega (arith, r .ensures .0, p .3)),
-      subst (λ (x : TableInfo). x .keys ≤ a .info .width) e (p .1 .stands .keys),
-      p .4,
-    )
+keep-indexed-requires : tie.Need-keep-indexed-requires
+keep-indexed-requires c κs = let p = c .before .before .before .before .before .before .before .before .before .before .before .before .before .pre in (p .1, stand (c .before .before .before .before .before .before .before), omega (arith, c .before .before .before .before .before .before .before .gather-all .ensures .0, p .3), p .1 .stands .keys, p .4)
 
 same-length : tie.Need-same-length
 same-length c = search needs
@@ -53,15 +54,28 @@ same-length-2 : tie.Need-same-length-2
 same-length-2 c = search needs
 
 returns : tie.Need-returns
-returns c =
-    let a = c .before .before .before .before .before .before .before .before .before .before .before .before .before .before .before .args in
-    let p = c .before .before .before .before .before .before .before .before .before .before .before .before .before .before .before .pre in
-    let r = c .before .before .before .before .before .before .before .before .before .gather-all in
-    let s : Rows = record { words = now (a .rows); part = a .start } in
-    c .before .before .keep-rows .ensures
-    ∙ ap (λ (x : TableInfo). spared (now (a .words)) (take (r .result * a .info .keys) (r .last .1 .1 .1 .1 .0)) x (a .info) (a .info .rows) s) (c .before .before .before .before .key-table .ensures)
-    ∙ ap (λ (x : Keys). spared (now (a .words)) (x .words) (keyTable (a .info .keys) (x .count)) (a .info) (a .info .rows) s) (r .ensures .1)
-    ∙ spared-kept (now (a .words)) (now (a .log)) (a .t .0) (a .info) s (p .0) (p .1)
+returns c = c .before .before .keep-indexed .ensures ∙ rows-kept (c .before .before .before .before .before .before .before .before .before .before) _
+
+slice-reshare-prefix-keep-all : tie.Need-slice-reshare-prefix-keep-all
+slice-reshare-prefix-keep-all c = fits (c .before .before .before .before .before)
+
+slice-aggregate-keep-all : tie.Need-slice-aggregate-keep-all
+slice-aggregate-keep-all c = sym (length-take-le _ _ (fits (c .before .before .before .before .before .before)))
+
+slice-aggregate-keep-all-2 : tie.Need-slice-aggregate-keep-all-2
+slice-aggregate-keep-all-2 c = search needs
+
+keep-all-requires : tie.Need-keep-all-requires
+keep-all-requires c κs = let p = c .before .before .before .before .before .before .before .before .before .before .before .before .before .before .pre in (p .1, stand (c .before .before .before .before .before .before .before .before), inl refl, p .1 .stands .keys, p .4)
+
+same-length-3 : tie.Need-same-length-3
+same-length-3 c = search needs
+
+same-length-4 : tie.Need-same-length-4
+same-length-4 c = search needs
+
+returns-2 : tie.Need-returns-2
+returns-2 c = c .before .before .keep-all .ensures ∙ rows-kept (c .before .before .before .before .before .before .before .before .before .before .before) _
 
 pub keep-spec : {M : Type 1} → statement M
 keep-spec =
@@ -69,10 +83,17 @@ keep-spec =
     (tie.spec
     gather-all-requires
     mul-end
-    slice-reshare-prefix-keep-rows
-    slice-aggregate-keep-rows
-    key-table-requires
-    keep-rows-requires
+    is-worth-it-requires
+    slice-reshare-prefix-keep-indexed
+    slice-aggregate-keep-indexed
+    keep-indexed-requires
     same-length
     same-length-2
-    returns)
+    returns
+    slice-reshare-prefix-keep-all
+    slice-aggregate-keep-all
+    slice-aggregate-keep-all-2
+    keep-all-requires
+    same-length-3
+    same-length-4
+    returns-2)
