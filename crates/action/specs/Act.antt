@@ -8,15 +8,14 @@ use Rattle.ids.specs.declared.ColumnId.{ColumnId}
 use Rattle.mask.specs.Masks.{firstLanes, united, without}
 use Rattle.tables.specs.Tables.{infoOf}
 use Rattle.hash_index.specs.Book.{rowsBefore}
-use Rattle.instr.specs.declared.QueryEntry.the-variants.{Const}
 use Rattle.instr.specs.declared.Entries.{Entries}
 use Rattle.instr.specs.declared.Instr.{Instr}
 use Rattle.instr.specs.declared.Instr.the-variants.{LookupOrInsertDefault, LookupWithDefault, Lookup, LookupWithFallback, Insert, InsertIfEq, Remove, External, ExternalWithFallback, AssertEq, AssertNe, AssertAnyNe, ReadCounter}
 use Rattle.lanes.specs.declared.Ask.{Ask}
-use Rattle.lanes.specs.declared.Ask.the-variants.{Lookup as AskRow, External as AskFunction, Entry as AskEntry}
+use Rattle.lanes.specs.declared.Ask.the-variants.{Lookup as AskRow, External as AskFunction, Const as AskConst}
 use Rattle.lanes.specs.declared.Test.{Test}
 use Rattle.lanes.specs.declared.Test.the-variants.{Eq, Ne, AnyNe}
-use Rattle.lanes.specs.Lanes.{listed, asked, holds, answeredLanes, answeredWords, kept}
+use Rattle.lanes.specs.Lanes.{listed, entryAsk, asked, holds, answeredLanes, answeredWords, kept}
 use Rattle.execution.specs.declared.ExecutionState.{ExecutionState}
 use Rattle.execution.specs.Execution.{Logged, stagedLanes}
 use Rattle.predict.specs.declared.Asking.{Asking}
@@ -79,11 +78,11 @@ module _ (w m : List ℕ) where
 
   -- a counter's next in every lane
   abbrev pub counting : ℕ → Lanes → Lanes
-  counting c l = withLanes (l .live) (answeredWords (asked w m (AskEntry (Const (getD (l .state .counters .next) c 0)))) (firstLanes 256) (l .out)) l
+  counting c l = withLanes (l .live) (answeredWords (asked w m (AskConst (getD (l .state .counters .next) c 0))) (firstLanes 256) (l .out)) l
 
   unfoldable pub acted : Instr → Lanes → Lanes
   acted (LookupOrInsertDefault t args vals col dst) l = serving t args vals col l
-  acted (LookupWithDefault t args col dst e) l = answeringOr (rowAsk w t args col) (AskEntry e) l
+  acted (LookupWithDefault t args col dst e) l = answeringOr (rowAsk w t args col) (entryAsk e) l
   acted (Lookup t args col dst) l = answering (rowAsk w t args col) l
   acted (LookupWithFallback t key f args col dst) l = answeringOr (rowAsk w t key col) (AskFunction f args) l
   acted (Insert t vals) l = staging 0 t vals (l .live) l

@@ -7,7 +7,6 @@ use execution::Staging;
 use ids::CounterId;
 use instr::Dst;
 use instr::Instr;
-use instr::QueryEntry;
 use lanes::Ask;
 use lanes::Test;
 use mask::Mask;
@@ -17,10 +16,9 @@ ghost use lib.ListN.{length, getD};
 ghost use Rattle.model.specs.Book.Contents.{firstOf, firstRule, ruleCount, tableCount};
 ghost use Rattle.model.specs.Laws.Book.{Readable};
 ghost use Rattle.hash_index.specs.Book.{BookIndex};
-ghost use Rattle.instr.specs.declared.QueryEntry.the-variants.{Const};
 ghost use Rattle.instr.specs.Instr.{instrAt};
 ghost use Rattle.instr.specs.Stands.{Stands, IsVariable, variableOf};
-ghost use Rattle.lanes.specs.declared.Ask.the-variants.{Entry};
+ghost use Rattle.lanes.specs.declared.Ask.the-variants.{Const};
 ghost use Rattle.lanes.specs.Lanes.{asked, answeredWords};
 ghost use Rattle.predict.specs.Predict.{Ready};
 ghost use Rattle.action.specs.Act.{Lanes, acted};
@@ -51,7 +49,7 @@ fn read_counter(
     out: &mut [u32],
 )
     requires { ⌜ length (now out) ≡ 256 ⌝ }
-    ensures { λ _. ⌜ now (out .exit) ≡ answeredWords (asked (now (words .entry)) (now (bindings .entry)) (Entry (Const (getD (state .counters .next) (counter .0) 0)))) (mask .live) (now (out .entry)) ⌝ }
+    ensures { λ _. ⌜ now (out .exit) ≡ answeredWords (asked (now (words .entry)) (now (bindings .entry)) (Const (getD (state .counters .next) (counter .0) 0))) (mask .live) (now (out .entry)) ⌝ }
 {
     let counters = state.counters;
     let next = counters.read(counter);
@@ -59,7 +57,7 @@ fn read_counter(
         words,
         committed,
         bindings,
-        Ask::Entry(QueryEntry::Const(next)),
+        Ask::Const(next),
         mask,
         out,
     );
@@ -117,7 +115,7 @@ fn act(
                 committed,
                 bindings,
                 lookup::row_ask(words, table, args, dst_col),
-                Ask::Entry(default),
+                lanes::entry_ask(default),
                 mask,
                 out,
             ),

@@ -2,6 +2,7 @@
 use Prim.Native.Nat.{ℕ, zero, suc, _+_, _-_, _≤_, _<_, min}
 use mathlib.Core.Path.{_≡_, refl, sym, _∙_}
 use mathlib.Core.Bool.{true, false}
+use mathlib.Core.Option.{some}
 use mathlib.Core.List.{List, [], _∷_}
 use native.Mathlib.Omega.{arith}
 use lib.ListN.{length, getD, take, drop, length-drop, length-take}
@@ -10,16 +11,37 @@ use lib.Seq.{getD-take, getD-drop, length-take-le}
 use borrow.Author.Tests.{eq-eqb, ne-eqb}
 use Rattle.model.specs.Machine.Steps.{anyNe}
 use Rattle.words.specs.Filled.{filled, getD-filled}
+use Rattle.bindings.specs.Columns.{wordOf}
+use Rattle.instr.specs.declared.QueryEntry.{QueryEntry}
+use Rattle.instr.specs.declared.QueryEntry.the-variants as entry
+use Rattle.instr.specs.Meaning.{entryOf}
 use Rattle.tables.specs.declared.TableInfo.{TableInfo}
 use Rattle.tables.specs.declared.Found.{Found}
 use Rattle.tables.specs.declared.Found.the-variants.{At, Nothing}
 use Rattle.tables.specs.Tables.{Stands, foundRow}
 use Rattle.tables.specs.TablesLaws.{found-within}
-use Rattle.lanes.specs.Lanes.{Begins}
+use Rattle.lanes.specs.declared.Ask.{Ask}
+use Rattle.lanes.specs.Lanes.{Begins, asked, entryAsk, AskFits, IndexFor}
 
 pub begins : (w : List ℕ) (t : TableInfo) (key : List ℕ) (row : Found) → Stands w t → row ≡ foundRow w t key → Begins w row
 begins w t key (At p) s e = omega (arith, found-within w t key p (sym e), s .rows)
 begins w t key Nothing s e = tt
+
+-- ## An entry that is asked for
+
+pub asked-entry : (w m : List ℕ) (e : QueryEntry) (i : ℕ) → asked w m (entryAsk e) i ≡ some (wordOf m i (entryOf e))
+unfolding entryAsk asked
+asked-entry w m (entry.Var v) i = refl
+asked-entry w m (entry.Const x) i = refl
+
+-- it asks for no table
+pub entry-fits : (w index : List ℕ) (a : Ask) (e : QueryEntry) → a ≡ entryAsk e → AskFits w a × IndexFor w a index
+unfolding entryAsk
+entry-fits w index a e q = rw q (by e)
+  where
+    by : (e : QueryEntry) → AskFits w (entryAsk e) × IndexFor w (entryAsk e) index
+    by (entry.Var v) = (tt, tt)
+    by (entry.Const x) = (tt, tt)
 
 -- ## Pairs of two lists
 

@@ -1,5 +1,5 @@
 -- What each lane is answered, and whether it passes a test: w is the book's words, m the memory of the bindings.
-use Prim.Native.Nat.{ℕ, _+_, _≤_}
+use Prim.Native.Nat.{ℕ, _+_, _*_, _≤_}
 use mathlib.Core.Bool.{Bool, true, false, _&&_, not}
 use mathlib.Core.Option.{Option, none, some}
 use mathlib.Core.List.{List}
@@ -11,6 +11,8 @@ use Rattle.model.specs.Machine.Steps.{anyNe}
 use Rattle.args.specs.declared.Args.{Args}
 use Rattle.args.specs.Args.{asList}
 use Rattle.bindings.specs.Columns.{wordOf, fetched}
+use Rattle.instr.specs.declared.QueryEntry.{QueryEntry}
+use Rattle.instr.specs.declared.QueryEntry.the-variants as entry
 use Rattle.instr.specs.declared.Entries.{Entries}
 use Rattle.instr.specs.Meaning.{entryOf}
 use Rattle.instr.specs.Stands.{Short}
@@ -19,7 +21,7 @@ use Rattle.tables.specs.declared.Found.the-variants.{At, Nothing}
 use Rattle.tables.specs.Tables.{Stands, foundRow}
 use Rattle.hash_index.specs.Index.{IndexAmong}
 use Rattle.lanes.specs.declared.Ask.{Ask}
-use Rattle.lanes.specs.declared.Ask.the-variants.{Lookup, External, Entry}
+use Rattle.lanes.specs.declared.Ask.the-variants.{Lookup, External, Var, Const}
 use Rattle.lanes.specs.declared.Test.{Test}
 use Rattle.lanes.specs.declared.Test.the-variants.{Eq, Ne, AnyNe}
 
@@ -41,7 +43,8 @@ module _ (w m : List ℕ) where
   unfoldable pub asked : Ask → ℕ → Option ℕ
   asked (Lookup table first key col) i = columnOf w (col .0) (foundRow w table (listed i key .vals))
   asked (External func args) i = apply (func .0) (asList (listed i args))
-  asked (Entry e) i = some (wordOf m i (entryOf e))
+  asked (Var v) i = some (getD m (256 * v .0 + i) 0)
+  asked (Const x) i = some x
 
   -- whether lane i passes
   unfoldable pub holds : Test → ℕ → Bool
@@ -49,17 +52,24 @@ module _ (w m : List ℕ) where
   holds (Ne l r) i = not (eqb (wordOf m i (entryOf l)) (wordOf m i (entryOf r)))
   holds (AnyNe ops divider) i = anyNe (take divider (asList (listed i ops))) (drop divider (asList (listed i ops)))
 
+-- what an entry stands for is asked for
+unfoldable pub entryAsk : QueryEntry → Ask
+entryAsk (entry.Var v) = Var v
+entryAsk (entry.Const x) = Const x
+
 -- what the code may suppose: a table stands in the words, a list is short
 abbrev pub AskFits : List ℕ → Ask → Type 0
 AskFits w (Lookup table first key col) = Stands w table × Short key
 AskFits w (External func args) = Short args
-AskFits w (Entry e) = Unit {0}
+AskFits w (Var v) = Unit {0}
+AskFits w (Const x) = Unit {0}
 
 -- an index that has the rows of the table that is asked, or none
 abbrev pub IndexFor : List ℕ → Ask → List ℕ → Type 0
 IndexFor w (Lookup table first key col) index = IndexAmong w table first index
 IndexFor w (External func args) index = Unit {0}
-IndexFor w (Entry e) index = Unit {0}
+IndexFor w (Var v) index = Unit {0}
+IndexFor w (Const x) index = Unit {0}
 
 abbrev pub TestFits : Test → Type 0
 TestFits (Eq l r) = Unit {0}

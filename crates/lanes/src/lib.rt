@@ -4,6 +4,7 @@ use functions::Answer;
 use ids::ColumnId;
 use ids::ExternalFunctionId;
 use ids::Lane;
+use ids::Variable;
 use instr::Entries;
 use instr::QueryEntry;
 use mask::Mask;
@@ -20,9 +21,9 @@ ghost use Rattle.functions.specs.Answers.{answerOf};
 ghost use Rattle.bindings.specs.Columns.{wordOf};
 ghost use Rattle.instr.specs.Meaning.{entryOf};
 ghost use Rattle.instr.specs.Stands.{Short};
-ghost use Rattle.lanes.specs.Lanes.{listed, Begins, columnOf, asked, AskFits, IndexFor, holds, TestFits, isSome, orElse, answeredLanes, answeredWords, kept};
+ghost use Rattle.lanes.specs.Lanes.{listed, Begins, entryAsk, columnOf, asked, AskFits, IndexFor, holds, TestFits, isSome, orElse, answeredLanes, answeredWords, kept};
 
-// What a lane asks for: a column of the committed row with a key, what a function answers, or what an entry stands for. The table's first row has the number `first` among the rows of all tables.
+// What a lane asks for: a column of the committed row with a key, what a function answers, a variable's word, or a constant. The table's first row has the number `first` among the rows of all tables.
 pub enum Ask {
     Lookup {
         table: TableInfo,
@@ -34,7 +35,8 @@ pub enum Ask {
         func: ExternalFunctionId,
         args: Entries,
     },
-    Entry(QueryEntry),
+    Var(Variable),
+    Const(u32),
 }
 
 // What a lane has to pass: two entries are equal, or differ, or some pair of a list's two sides differs.
@@ -42,6 +44,16 @@ pub enum Test {
     Eq(QueryEntry, QueryEntry),
     Ne(QueryEntry, QueryEntry),
     AnyNe { ops: Entries, divider: usize },
+}
+
+// What an entry stands for is asked for.
+pub fn entry_ask(e: QueryEntry) -> Ask
+    ensures { λ r. ⌜ r ≡ entryAsk e ⌝ }
+{
+    match e {
+        QueryEntry::Var(v) => Ask::Var(v),
+        QueryEntry::Const(x) => Ask::Const(x),
+    }
 }
 
 // What a list of entries stands for in a lane.
@@ -91,7 +103,8 @@ fn answer(words: &[u32], committed: &[u32], bindings: &[u32], ask: Ask, lane: La
             column(words, row, col)
         }
         Ask::External { func, args } => functions::invoke(func, fetch(words, bindings, args, lane)),
-        Ask::Entry(e) => Answer::Word(value(bindings, e, lane)),
+        Ask::Var(v) => Answer::Word(bindings::variable(bindings, v, lane)),
+        Ask::Const(x) => Answer::Word(x),
     }
 }
 

@@ -33,11 +33,11 @@ use Rattle.bindings.specs.Columns.{columnsOf}
 use Rattle.instr.specs.declared.Entries.{Entries}
 use Rattle.instr.specs.declared.Instr.{Instr}
 use Rattle.instr.specs.declared.Instr.the-variants.{LookupOrInsertDefault, LookupWithDefault, Lookup, LookupWithFallback, Insert, InsertIfEq, Remove, External, ExternalWithFallback, AssertEq, AssertNe, AssertAnyNe, ReadCounter}
-use Rattle.instr.specs.declared.QueryEntry.the-variants.{Const}
 use Rattle.instr.specs.Meaning.{entriesOf, writesOf, instrOf}
 use Rattle.lanes.specs.declared.Ask.{Ask}
-use Rattle.lanes.specs.declared.Ask.the-variants.{Entry as AskEntry}
-use Rattle.lanes.specs.Lanes.{asked, isSome, orElse, answeredLanes, answeredWords}
+use Rattle.lanes.specs.declared.Ask.the-variants.{Const as AskConst}
+use Rattle.lanes.specs.LaneLaws.{asked-entry}
+use Rattle.lanes.specs.Lanes.{entryAsk, asked, isSome, orElse, answeredLanes, answeredWords}
 use Rattle.execution.specs.declared.Stop.the-variants.{Going}
 use Rattle.execution.specs.declared.ExecutionState.{ExecutionState}
 use Rattle.execution.specs.Execution.{Logged, stagedLanes}
@@ -163,7 +163,7 @@ module _ (w : List ℕ) (L : ℕ) (s : State) (start : Start s) (x : ExecutionSt
     unfolding acted asked
     ins-2 table args col dst e f =
         subst (λ (live : List Bool). Follows s (ran (LookupWithDefault table args col dst e)) (x .stop) (LanesAre w L s (ran (LookupWithDefault table args col dst e)) (record { live = live; state = x; log = log; index = index; out = left (LookupWithDefault table args col dst e) .out })))
-        (sym (given-all (asked w m (rowAsk w table args col)) (asked w m (AskEntry e)) (λ i. refl)))
+        (sym (given-all (asked w m (rowAsk w table args col)) (asked w m (entryAsk e)) (λ i. ap isSome (asked-entry w m e i))))
         (read-only (ran (LookupWithDefault table args col dst e)) (padded (s .live)) (left (LookupWithDefault table args col dst e) .out) (lookup-default w (λ n. leb n L) k j s start table args col dst e (f .0 .known) (f .1) (f .2)))
 
     ins-3 : (table : TableId) (args : Entries) (col : ColumnId) (dst : Variable) → Fits w (Lookup table args col dst) → Lanewise (Lookup table args col dst)
@@ -226,8 +226,8 @@ module _ (w : List ℕ) (L : ℕ) (s : State) (start : Start s) (x : ExecutionSt
       live = refl;
       out = out-column n (replicate n (some next)) words (start .few) (record {
         marks = length-replicate n (some next);
-        size = length-words (asked w m (AskEntry (Const given))) (firstLanes 256) noWords;
-        word = λ i h. answered-word (asked w m (AskEntry (Const given))) (firstLanes 256) noWords i (omega arith) ∙ rw (has-first 256 i (omega arith), lt-ltb i 256 (omega arith)) (read i h);
+        size = length-words (asked w m (AskConst given)) (firstLanes 256) noWords;
+        word = λ i h. answered-word (asked w m (AskConst given)) (firstLanes 256) noWords i (omega arith) ∙ rw (has-first 256 i (omega arith), lt-ltb i 256 (omega arith)) (read i h);
       });
       is = is;
     })
@@ -239,12 +239,12 @@ module _ (w : List ℕ) (L : ℕ) (s : State) (start : Start s) (x : ExecutionSt
         given = getD (x .counters .next) (c .0) 0
 
         words : List ℕ
-        words = answeredWords (asked w m (AskEntry (Const given))) (firstLanes 256) noWords
+        words = answeredWords (asked w m (AskConst given)) (firstLanes 256) noWords
 
         given-is : given ≡ next
         given-is = ap (λ (l : List ℕ). getD l (c .0) 0) (is .next) ∙ getD-padded (s .counters) (c .0) (omega (arith, is .counted, f .0))
 
-        read : (i : ℕ) → i < n → orElse (only true (asked w m (AskEntry (Const given)) i)) (getD noWords i 0) ≡ orStale (getD (replicate n (some next)) i none)
+        read : (i : ℕ) → i < n → orElse (only true (asked w m (AskConst given) i)) (getD noWords i 0) ≡ orStale (getD (replicate n (some next)) i none)
         read i h = given-is ∙ ap orStale (sym (filled-mark n i next h))
 
     -- ## The missed lanes are served

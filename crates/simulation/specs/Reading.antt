@@ -1,6 +1,6 @@
 -- The instructions that only read, by the passes of their lanes.
 use Prim.Native.Nat.{ℕ, _<_}
-use mathlib.Core.Path.{_≡_}
+use mathlib.Core.Path.{_≡_, sym, subst, fun-ext}
 use mathlib.Core.Logic.{_⊎_}
 use mathlib.Core.Bool.{Bool}
 use mathlib.Core.Option.{Option}
@@ -26,12 +26,13 @@ use Rattle.instr.specs.Meaning.{entryOf, entriesOf, instrOf}
 use Rattle.instr.specs.Stands.{Short}
 use Rattle.hash_index.specs.Book.{rowsBefore}
 use Rattle.lanes.specs.declared.Ask.{Ask}
-use Rattle.lanes.specs.declared.Ask.the-variants.{Lookup, External, Entry}
+use Rattle.lanes.specs.declared.Ask.the-variants.{Lookup, External}
 use Rattle.lanes.specs.declared.Test.{Test}
 use Rattle.lanes.specs.declared.Test.the-variants.{Eq, Ne, AnyNe}
 use Rattle.mask.specs.Masks.{padded, united, without}
 use Rattle.action.specs.Act.{rowAsk}
-use Rattle.lanes.specs.Lanes.{asked, holds, answeredLanes, answeredWords, kept}
+use Rattle.lanes.specs.LaneLaws.{asked-entry}
+use Rattle.lanes.specs.Lanes.{entryAsk, asked, holds, answeredLanes, answeredWords, kept}
 use Rattle.simulation.specs.Turns.{Answers, lookup-does, invoke-does, default-does, eq-does, ne-does, any-ne-does}
 use Rattle.simulation.specs.Passes.{noWords, missedLanes, Start, Ends, Waits, drop-pass, default-pass, test-pass, first-pass, fallback-pass}
 
@@ -99,11 +100,13 @@ module _ (w : List ℕ) (room : ℕ → Bool) (k j : ℕ) (s : State) (start : S
 
   -- 2
   pub lookup-default : (table : TableId) (args : Entries) (col : ColumnId) (dst : Variable) (e : QueryEntry) → table .0 < tableCount w → Reads w args → Named (entryOf e)
-      → EndsGiven w s (body E k j (instrOf w (instr.LookupWithDefault table args col dst e)) s) (rowAsk w table args col) (Entry e)
-  unfolding body instrOf asked
+      → EndsGiven w s (body E k j (instrOf w (instr.LookupWithDefault table args col dst e)) s) (rowAsk w table args col) (entryAsk e)
+  unfolding body instrOf
   lookup-default table args col dst e l r n =
-      default-pass s start (askedIn w s (rowAsk w table args col)) (λ i. wordOf (columnsOf (s .bindings)) i (entryOf e)) (look (table .0) args col) (λ i. takeDefault (here k j i) (entryOf e))
-      (looks (table .0) args col l r) (default-does w room k j (s .bindings) e n)
+      let ask = askedIn w s (rowAsk w table args col) in
+      subst (λ (given : ℕ → Option ℕ). Ends s (body E k j (instrOf w (instr.LookupWithDefault table args col dst e)) s) (padded (s .live)) (answeredWords given (missedLanes ask (padded (s .live))) (answeredWords ask (padded (s .live)) noWords)))
+      (fun-ext (λ i. sym (asked-entry w (columnsOf (s .bindings)) e i)))
+      (default-pass s start ask (λ i. wordOf (columnsOf (s .bindings)) i (entryOf e)) (look (table .0) args col) (λ i. takeDefault (here k j i) (entryOf e)) (looks (table .0) args col l r) (default-does w room k j (s .bindings) e n))
 
   -- 3
   pub lookup-drop : (table : TableId) (args : Entries) (col : ColumnId) (dst : Variable) → table .0 < tableCount w → Reads w args

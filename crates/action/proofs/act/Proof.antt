@@ -2,6 +2,7 @@ use mathlib.Core.Path.{ap}
 use denote.Ref.{now}
 use Rattle.model.specs.Book.Contents.{tableCount}
 use Rattle.hash_index.specs.BookLaws.{book-has}
+use Rattle.lanes.specs.LaneLaws.{entry-fits}
 use Rattle.execution.specs.Execution.{Logged}
 use Rattle.action.specs.Act.{Lanes, withLog, acted}
 use Rattle.action.specs.ActLaws.{table-stands}
@@ -24,12 +25,16 @@ enum-known-i-2 c = search needs
 row-ask-requires : tie.Need-row-ask-requires
 row-ask-requires c κs = search needs
 
+entry-ask-requires : tie.Need-entry-ask-requires
+entry-ask-requires c κs = search needs
+
 fill-or-else-requires : tie.Need-fill-or-else-requires
 fill-or-else-requires c κs =
-    let a = c .before .before .before .before .before .before .before .before .before .before .before .args in
-    let p = c .before .before .before .before .before .before .before .before .before .before .before .pre in
-    let s = rw (c .before .before .before .i2 .given .1) at (p .2) in
-    rw (c .before .row-ask .ensures) ((table-stands (now (a .words)) (p .0) _ (s .0), s .1), book-has (now (a .words)) (tableCount (now (a .words))) (now (a .committed)) (p .1) _ (s .0), tt, tt, p .4)
+    let a = c .before .before .before .before .before .before .before .before .before .before .before .before .args in
+    let p = c .before .before .before .before .before .before .before .before .before .before .before .before .pre in
+    let s = rw (c .before .before .before .before .i2 .given .1) at (p .2) in
+    let e = entry-fits (now (a .words)) (now (a .committed)) _ _ (c .before .entry-ask .ensures) in
+    rw (c .before .before .row-ask .ensures) ((table-stands (now (a .words)) (p .0) _ (s .0), s .1), book-has (now (a .words)) (tableCount (now (a .words))) (now (a .committed)) (p .1) _ (s .0), e .0, e .1, p .4)
 
 enum-known-i-3 : tie.Need-enum-known-i-3
 enum-known-i-3 c = search needs
@@ -150,7 +155,7 @@ same-length-4 c = search needs
 
 returns-2 : tie.Need-returns-2
 unfolding acted
-returns-2 c = let e = c .before .before .fill-or-else .ensures in (rw (c .before .before .before .before .before .before .i2 .given .1, e .0, e .1, c .before .before .before .before .row-ask .ensures), c .before .before .before .before .before .before .before .before .before .before .before .before .before .before .pre .3 .used)
+returns-2 c = let e = c .before .before .fill-or-else .ensures in (rw (c .before .before .before .before .before .before .before .i2 .given .1, e .0, e .1, c .before .before .before .before .before .row-ask .ensures, c .before .before .before .before .entry-ask .ensures), c .before .before .before .before .before .before .before .before .before .before .before .before .before .before .before .pre .3 .used)
 
 same-length-5 : tie.Need-same-length-5
 same-length-5 c = search needs
@@ -240,6 +245,7 @@ act-spec =
     lookup-or-insert-default-requires
     enum-known-i-2
     row-ask-requires
+    entry-ask-requires
     fill-or-else-requires
     enum-known-i-3
     row-ask-requires-2

@@ -31,8 +31,11 @@ invoke-requires c κs = search needs
 enum-known-ask-3 : tie.Need-enum-known-ask-3
 enum-known-ask-3 c = search needs
 
-value-requires : tie.Need-value-requires
-value-requires c κs = search needs
+variable-requires : tie.Need-variable-requires
+variable-requires c κs = search needs
+
+enum-known-ask-4 : tie.Need-enum-known-ask-4
+enum-known-ask-4 c = search needs
 
 returns : tie.Need-returns
 unfolding asked
@@ -44,7 +47,11 @@ returns-2 c = rw (c .before .before .before .ask2 .given .1, ← c .before .fetc
 
 returns-3 : tie.Need-returns-3
 unfolding asked
-returns-3 c = rw (c .before .before .ask3 .given .1, ← c .value .ensures)
+returns-3 c = rw (c .before .before .ask3 .given .1, ← c .variable .ensures)
+
+returns-4 : tie.Need-returns-4
+unfolding asked
+returns-4 c = rw (c .before .ask4 .given .1)
 
 pub answer-spec : {M : Type 1} → statement M
 answer-spec =
@@ -58,7 +65,9 @@ answer-spec =
     fetch-requires-2
     invoke-requires
     enum-known-ask-3
-    value-requires
+    variable-requires
+    enum-known-ask-4
     returns
     returns-2
-    returns-3)
+    returns-3
+    returns-4)
