@@ -99,7 +99,7 @@ fn is_worth_it(keys: usize, rows: usize) -> bool {
     if keys < 16 {
         return false;
     }
-    64 <= rows
+    4096 / keys <= rows
 }
 
 // By an index that is made for it.
