@@ -53,14 +53,7 @@ fn read_counter(
 {
     let counters = state.counters;
     let next = counters.read(counter);
-    lanes::fill(
-        words,
-        committed,
-        bindings,
-        Ask::Const(next),
-        mask,
-        out,
-    );
+    lanes::fill(words, committed, bindings, Ask::Const(next), mask, out);
 }
 
 // The lanes' part of an instruction; its dst is left in `out`.

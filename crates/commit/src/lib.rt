@@ -49,9 +49,15 @@ fn commit_table(
     done
 }
 
-// All tables of the book, with the words of the log's records. Where `over` says that a row had no room, the rows are not whole.
-pub fn commit(words: &[u32], tables: usize, log: &[u32], rows: &mut [u32]) -> Committed
-    requires { ⌜ (tables ≤ 16) × (length (now log) ≤ 16384) × (length (now rows) ≤ 16384) × ((t : ℕ) → t < tables → RowsStand (now words) (infoOf (now words) t)) ⌝ }
+// All tables of the book, with the words of the log's records. Where `over` says that a row had no room, the rows are not whole. `gone` is lent for the keys of removals.
+fn commit_all(
+    words: &[u32],
+    tables: usize,
+    log: &[u32],
+    gone: &mut [u32],
+    rows: &mut [u32],
+) -> Committed
+    requires { ⌜ (tables ≤ 16) × (length (now log) ≤ 16384) × (length (now log) ≤ length (now gone)) × (length (now rows) ≤ 16384) × ((t : ℕ) → t < tables → RowsStand (now words) (infoOf (now words) t)) ⌝ }
     ensures { λ r. ⌜ _≡_ {A = Left} (record { words = now (rows .exit); result = r }) (committedRows (now (words .entry)) tables (now (log .entry)) (now (rows .entry))) ⌝ }
 {
     let mut done = Committed {
@@ -59,11 +65,23 @@ pub fn commit(words: &[u32], tables: usize, log: &[u32], rows: &mut [u32]) -> Co
         used: 0,
         over: false,
     };
-    let mut gone = [0u32; 16384];
     let mut t = 0;
     while t < tables {
-        done = commit_table(words, log, t, &mut gone, rows, done);
+        done = commit_table(words, log, t, gone, rows, done);
         t += 1;
     }
     done
+}
+
+// The same. The keys of a small log's removals have room in an array that is sooner cleared.
+pub fn commit(words: &[u32], tables: usize, log: &[u32], rows: &mut [u32]) -> Committed
+    requires { ⌜ (tables ≤ 16) × (length (now log) ≤ 16384) × (length (now rows) ≤ 16384) × ((t : ℕ) → t < tables → RowsStand (now words) (infoOf (now words) t)) ⌝ }
+    ensures { λ r. ⌜ _≡_ {A = Left} (record { words = now (rows .exit); result = r }) (committedRows (now (words .entry)) tables (now (log .entry)) (now (rows .entry))) ⌝ }
+{
+    if log.len() <= 1024 {
+        let mut few = [0u32; 1024];
+        return commit_all(words, tables, log, &mut few, rows);
+    }
+    let mut gone = [0u32; 16384];
+    commit_all(words, tables, log, &mut gone, rows)
 }

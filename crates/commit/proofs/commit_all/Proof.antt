@@ -9,28 +9,25 @@ use Rattle.model.specs.Laws.Iter.{iter-more}
 use Rattle.commit.specs.Commit.{Left, tableCommitted, committedRows}
 use Rattle.commit.specs.TableLaws.{table-fits}
 use borrow.Author.Needs.{needs}
-use Rattle.commit.proofs.commit.Statement.{statement}
-use Rattle.commit.proofs.commit.Tie as tie
+use Rattle.commit.proofs.commit_all.Statement.{statement}
+use Rattle.commit.proofs.commit_all.Tie as tie
 
 abbrev Inv-loop : tie.InvT-loop
-Inv-loop words tables log rows₀ done₀ gone₀ t₀ rows done gone t =
-    (t ≤ tables) × (length gone ≡ 16384) × (length rows ≡ length rows₀) × (done .used ≤ length rows₀)
+Inv-loop words tables log gone₀ rows₀ done₀ t₀ gone rows done t =
+    (t ≤ tables) × (length gone ≡ length gone₀) × (length rows ≡ length rows₀) × (done .used ≤ length rows₀)
     × (_≡_ {A = Left} (record { words = rows; result = done }) (iter (tableCommitted words log) t (record { words = rows₀; result = record { counts = replicate 16 0; used = 0; over = false } })))
 
 abbrev μ-loop : tie.MeasureT-loop
-μ-loop words tables log rows₀ done₀ gone₀ t₀ rows done gone t = tables - t
+μ-loop words tables log gone₀ rows₀ done₀ t₀ gone rows done t = tables - t
 
 loop-holds : tie.Need-loop-holds Inv-loop μ-loop
 loop-holds c = (search needs, search needs, refl, omega arith, refl)
 
-slice-aggregate-commit-table : tie.Need-slice-aggregate-commit-table Inv-loop μ-loop
-slice-aggregate-commit-table c = search needs
-
 commit-table-requires : tie.Need-commit-table-requires Inv-loop μ-loop
 commit-table-requires c κs =
     let l = c .before .before .before .loop in
-    let pre = c .before .before .before .before .before .before .before .pre in
-    (omega arith, pre .3 (l .t) (c .before .before .loop-test .taken), omega (arith, l .inv .1, pre .1), pre .1, omega (arith, l .inv .2, l .inv .3), omega (arith, pre .2, l .inv .2))
+    let pre = c .before .before .before .before .before .before .before .before .pre in
+    (omega arith, pre .4 (l .t) (c .before .before .loop-test .taken), omega (arith, l .inv .1, pre .2), pre .1, omega (arith, l .inv .2, l .inv .3), omega (arith, pre .3, l .inv .2))
 
 add-t : tie.Need-add-t Inv-loop μ-loop
 add-t c = search needs
@@ -40,12 +37,12 @@ loop-less c = search needs
 
 loop-again : tie.Need-loop-again Inv-loop μ-loop
 loop-again c =
-    let a = c .before .before .before .before .before .before .before .before .before .before .before .args in
-    let l = c .before .before .before .before .before .before .before .loop in
-    let r = c .before .before .before .commit-table .ensures in
-    let f = table-fits (now (a .words)) (now (a .log)) (l .t) (record { words = l .rows; result = l .done }) (c .before .before .before .before .before .before .before .before .before .before .before .pre .3 (l .t) (c .before .before .before .before .before .before .loop-test .taken)) (omega (arith, l .inv .2, l .inv .3)) in (
+    let a = c .before .before .before .before .before .before .before .before .before .before .before .before .before .args in
+    let l = c .before .before .before .before .before .before .before .before .loop in
+    let r = c .before .before .before .before .commit-table .ensures in
+    let f = table-fits (now (a .words)) (now (a .log)) (l .t) (record { words = l .rows; result = l .done }) (c .before .before .before .before .before .before .before .before .before .before .before .before .before .pre .4 (l .t) (c .before .before .before .before .before .before .before .loop-test .taken)) (omega (arith, l .inv .2, l .inv .3)) in (
       search needs,
-      search needs,
+      c .before .before .before .before .commit-table .kept .1 .1 .1 .0 ∙ l .inv .1,
       ap (λ (x : Left). length (x .words)) r ∙ f .0 ∙ l .inv .2,
       omega (arith, ap (λ (x : Left). x .result .used) r, f .1, l .inv .2),
       iter-more (tableCommitted (now (a .words)) (now (a .log))) (l .t) (record { words = now (a .rows); result = record { counts = replicate 16 0; used = 0; over = false } }) (record { words = l .rows; result = l .done }) _ (l .inv .4) r,
@@ -54,24 +51,27 @@ loop-again c =
 same-length : tie.Need-same-length Inv-loop μ-loop
 same-length c = search needs
 
+same-length-2 : tie.Need-same-length-2 Inv-loop μ-loop
+same-length-2 c = search needs
+
 returns : tie.Need-returns Inv-loop μ-loop
 unfolding committedRows
 returns c =
     let l = c .before .loop in
-    let e : l .t ≡ c .before .before .before .before .before .args .tables = omega arith in
+    let e : l .t ≡ c .before .before .before .before .before .before .args .tables = omega arith in
     rw e at (l .inv .4)
 
-pub commit-spec : {M : Type 1} → statement M
-commit-spec =
+pub commit-all-spec : {M : Type 1} → statement M
+commit-all-spec =
     tie.close
     (tie.spec
     Inv-loop
     μ-loop
     loop-holds
-    slice-aggregate-commit-table
     commit-table-requires
     add-t
     loop-less
     loop-again
     same-length
+    same-length-2
     returns)
