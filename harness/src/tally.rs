@@ -1,9 +1,9 @@
 //! What a run of many cases came to, and whether everything that should be tried was.
-use book::{Book, Instr, LIMIT, Step};
+use book::{Book, Instr, LIMIT, Step, Table};
 
 use crate::case::{Case, Room};
 use crate::judge::Verdict;
-use crate::plain::{Coverage, Refusal};
+use crate::plain::{Coverage, Ran, Refusal};
 
 const INSTRS: [&str; 13] = [
     "LookupOrInsertDefault",
@@ -21,7 +21,7 @@ const INSTRS: [&str; 13] = [
     "ReadCounter",
 ];
 const MERGES: [&str; 4] = ["keep", "replace", "least", "greatest"];
-const SHAPES: [&str; 9] = [
+const SHAPES: [&str; 11] = [
     "0 lanes",
     "1 lane",
     "256 lanes",
@@ -29,7 +29,9 @@ const SHAPES: [&str; 9] = [
     "a prediction before a batch",
     "a prediction after a batch",
     "a counter near its limit",
-    "over 64 rows looked up by over 8 lanes",
+    "lookups in 32 rows or more",
+    "lookups in a table after the rows of another",
+    "removals enough for an index of their keys",
     "a log of 512 words",
 ];
 const ROOMS: [&str; 3] = ["log", "tables", "answer"];
@@ -42,7 +44,7 @@ pub struct Tally {
     pub disagreements: u64,
     refused: [u64; 17],
     coverage: Coverage,
-    shapes: [u64; 9],
+    shapes: [u64; 11],
     exactly_full: [u64; 3],
     one_short: [u64; 3],
 }
@@ -51,9 +53,9 @@ fn add<const N: usize>(to: &mut [u64; N], from: &[u64; N]) {
     to.iter_mut().zip(from).for_each(|(to, from)| *to += from);
 }
 
-/// Which of the shapes a book has that stages so many words. The last two are large enough for the engine to make an
-/// index of rows.
-fn shapes(book: &Book, log_words: usize) -> [bool; 9] {
+/// Which of the shapes a book has, and its run. The last four are those for which the engine makes an index: of all
+/// rows, of the keys that are removed from a table, of the rows that a log goes into.
+fn shapes(book: &Book, ran: &Ran) -> [bool; 11] {
     let prediction = |step: &Step| matches!(step, Step::Prediction { .. });
     let bare = |step: &Step| matches!(step, Step::Batch { columns, .. } if columns.is_empty());
     let lanes = |n: u32| {
@@ -62,17 +64,17 @@ fn shapes(book: &Book, log_words: usize) -> [bool; 9] {
     };
     let pair = |first: bool| book.steps.windows(2).any(|two| [&two[0], &two[1]].map(prediction) == [first, !first]);
     let near_limit = book.counters.iter().any(|next| *next >= LIMIT - 40);
-    let large = |table: u32| book.tables[table as usize].rows.len() > 64;
-    let looks_up = |instr: &Instr| match instr {
-        Instr::LookupOrInsertDefault { table, .. }
-        | Instr::LookupWithDefault { table, .. }
-        | Instr::Lookup { table, .. }
-        | Instr::LookupWithFallback { table, .. } => large(*table),
-        _ => false,
+    let rows = |tables: &[Table]| tables.iter().map(|table| table.rows.len()).sum::<usize>();
+    let looked_up = |step: &Step| -> Vec<u32> {
+        match step {
+            Step::Batch { rule, .. } => book.rules[*rule as usize].code.iter().filter_map(looks_up).collect(),
+            Step::Prediction { table, .. } => vec![*table],
+        }
     };
-    let indexed = |step: &Step| {
-        matches!(step, Step::Batch { rule, lanes, .. } if *lanes > 8 && book.rules[*rule as usize].code.iter().any(looks_up))
-    };
+    let tables: Vec<u32> = book.steps.iter().flat_map(looked_up).collect();
+    let indexed = rows(&book.tables) >= 32 && !tables.is_empty();
+    let later = indexed && tables.iter().any(|table| rows(&book.tables[..*table as usize]) > 0);
+    let many = |(table, removals): (&Table, &usize)| *removals >= 16 && 4096 / removals <= table.rows.len();
     [
         lanes(0),
         lanes(1),
@@ -81,9 +83,22 @@ fn shapes(book: &Book, log_words: usize) -> [bool; 9] {
         pair(true),
         pair(false),
         near_limit,
-        book.steps.iter().any(indexed),
-        log_words >= 512,
+        indexed,
+        later,
+        book.tables.iter().zip(&ran.removals).any(many),
+        ran.log_words >= 512,
     ]
+}
+
+/// The table in which an instruction looks a key up.
+fn looks_up(instr: &Instr) -> Option<u32> {
+    match instr {
+        Instr::LookupOrInsertDefault { table, .. }
+        | Instr::LookupWithDefault { table, .. }
+        | Instr::Lookup { table, .. }
+        | Instr::LookupWithFallback { table, .. } => Some(*table),
+        _ => None,
+    }
 }
 
 impl Tally {
@@ -102,7 +117,7 @@ impl Tally {
         }
         if let (Some(ran), Some(book)) = (&verdict.ran, &verdict.book) {
             self.note_coverage(&ran.coverage);
-            add(&mut self.shapes, &shapes(book, ran.log_words).map(u64::from));
+            add(&mut self.shapes, &shapes(book, ran).map(u64::from));
             let lent = [verdict.lent.log, verdict.lent.tables, verdict.lent.answer];
             let needed = [ran.log_words, ran.row_words, ran.answer.len()];
             add(&mut self.exactly_full, &[0, 1, 2].map(|i| u64::from(needed[i] > 0 && needed[i] == lent[i])));

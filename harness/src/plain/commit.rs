@@ -57,6 +57,9 @@ impl Machine<'_> {
             log.extend(words);
         }
         bodies.push((8, log));
-        Ran { answer: with_contents(&bodies), log_words: self.log_words, row_words, coverage: self.coverage }
+        let removals = (0..self.book.tables.len())
+            .map(|number| self.log.iter().filter(|(kind, of, _)| *kind == Kind::Removal && *of == number as u32).count())
+            .collect();
+        Ran { answer: with_contents(&bodies), log_words: self.log_words, row_words, removals, coverage: self.coverage }
     }
 }

@@ -24,6 +24,8 @@ pub struct Ran {
     pub answer: Vec<u32>,
     pub log_words: usize,
     pub row_words: usize,
+    /// How many removals were staged, for each table.
+    pub removals: Vec<usize>,
     pub coverage: Coverage,
 }
 
