@@ -23,7 +23,7 @@ extern "C" {
  *
  * Returned: the high 32 bits are 0 where the book is accepted, and the low 32 the number of words of the answer, which stand at the front of `answer`, with zero past them. Else the high 32 bits are the number of the refusal, 1 to 16, the low 32 its place, and `answer` is zero.
  * Bindings, index, log and tables are left zero in either case.
- * A call used up to 259 thousand bytes of stack where it was measured (docs/PERFORMANCE.md).
+ * A call used up to 221 thousand bytes of stack where it was measured (docs/PERFORMANCE.md).
  */
 uint64_t dispatch_run(const uint8_t *book, size_t book_len,
                       uint32_t *bindings, size_t bindings_len,
