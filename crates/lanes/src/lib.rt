@@ -11,7 +11,7 @@ use mask::Mask;
 use tables::Found;
 use tables::TableInfo;
 ghost use mathlib.Core.Path.{_≡_};
-ghost use mathlib.Core.Bool.{false, _&&_};
+ghost use mathlib.Core.Bool.{false, _&&_, not};
 ghost use Prim.Native.Nat.{_+_, _*_, _≤_, _<_, min};
 ghost use lib.ListN.{length, getD, take, drop};
 ghost use Rattle.model.specs.Basics.{only};
@@ -205,27 +205,29 @@ fn passes(words: &[u32], bindings: &[u32], test: Test, lane: Lane) -> bool
     }
 }
 
-// The same of a lane that may not be live.
-fn passes_live(words: &[u32], bindings: &[u32], test: Test, live: bool, lane: Lane) -> bool
+// Whether a lane is live and does not pass.
+fn fails(words: &[u32], bindings: &[u32], test: Test, live: bool, lane: Lane) -> bool
     requires { ⌜ TestFits test ⌝ }
-    ensures { λ r. ⌜ r ≡ (live && holds (now (words .entry)) (now (bindings .entry)) test (lane .0)) ⌝ }
+    ensures { λ r. ⌜ r ≡ (live && not (holds (now (words .entry)) (now (bindings .entry)) test (lane .0))) ⌝ }
 {
     if live {
-        return passes(words, bindings, test, lane);
+        return !passes(words, bindings, test, lane);
     }
     false
 }
 
-// The lanes of the mask that pass.
+// The lanes of the mask that pass; the others are dropped.
 pub fn retain(words: &[u32], bindings: &[u32], test: Test, mask: Mask) -> Mask
     requires { ⌜ TestFits test ⌝ }
     ensures { λ r. ⌜ r .live ≡ kept (holds (now (words .entry)) (now (bindings .entry)) test) (mask .live) ⌝ }
 {
-    let mut left = Mask::new(0);
     let n = mask.end();
+    let mut left = mask;
     let mut i = 0;
     while i < n {
-        left.live[i] = passes_live(words, bindings, test, mask.live[i], Lane(i));
+        if fails(words, bindings, test, mask.live[i], Lane(i)) {
+            left = left.drop(Lane(i));
+        }
         i += 1;
     }
     left

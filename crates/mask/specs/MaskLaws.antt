@@ -31,14 +31,6 @@ has-first n i h = getD-tab (λ i. ltb i n) 256 i false h
 pub none-first : (i : ℕ) → i < 256 → getD (firstLanes 0) i false ≡ false
 none-first i h = has-first 0 i h ∙ le-ltb i 0 (omega arith)
 
--- with b for lane i: dropped or inserted
-pub has-set : (l : List Bool) (i j : ℕ) (b : Bool) → i < length l → getD (set l i b) j false ≡ cond (eqb j i) b (getD l j false)
-has-set l i j b h = by (eqb j i) refl
-  where
-    by : (c : Bool) → eqb j i ≡ c → getD (set l i b) j false ≡ cond c b (getD l j false)
-    by true e = rw (eqb-true j i e) (getD-set-same l i b false h)
-    by false e = getD-set-other l i j b false (eqb-false j i e)
-
 pub has-both : (f : Bool → Bool → Bool) (a b : List Bool) (i : ℕ) → i < 256 → getD (both f a b) i false ≡ f (getD a i false) (getD b i false)
 unfolding both
 has-both f a b i h = getD-tab (λ i. f (getD a i false) (getD b i false)) 256 i false h

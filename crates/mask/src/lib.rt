@@ -39,14 +39,6 @@ impl Mask {
         Mask { live }
     }
 
-    // Whether a lane is live. No lane past 255 is.
-    pub fn has(self, lane: Lane) -> bool
-        ensures { λ r. ⌜ r ≡ getD (self .live) (lane .0) false ⌝ }
-    {
-        let i = lane.0;
-        if i < 256 { self.live[i] } else { false }
-    }
-
     // Without a lane.
     pub fn drop(mut self, lane: Lane) -> Self
         ensures { λ r. ⌜ r .live ≡ set (self .live) (lane .0) false ⌝ }
@@ -54,18 +46,6 @@ impl Mask {
         let i = lane.0;
         if i < 256 {
             self.live[i] = false;
-            return self;
-        }
-        self
-    }
-
-    // With a lane.
-    pub fn insert(mut self, lane: Lane) -> Self
-        ensures { λ r. ⌜ r .live ≡ set (self .live) (lane .0) true ⌝ }
-    {
-        let i = lane.0;
-        if i < 256 {
-            self.live[i] = true;
             return self;
         }
         self

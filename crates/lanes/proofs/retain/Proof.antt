@@ -1,23 +1,23 @@
-use native.Mathlib.Omega.{arith}
-use Rattle.lanes.specs.PassLaws.{live-marks}
-use Prim.Native.Nat.{_-_, _≤_}
-use mathlib.Core.Path.{_≡_}
+use Prim.Native.Nat.{_-_, _≤_, _<_}
+use mathlib.Core.Path.{_≡_, sym, ap, _∙_}
+use mathlib.Core.Logic.{⊎-elim}
 use mathlib.Core.Bool.{false, _&&_}
+use native.Mathlib.Omega.{arith}
+use denote.Ref.{now}
 use lib.ListN.{length, getD}
-use Rattle.words.specs.Filled.{filled, filled-none, filled-turn}
+use Rattle.words.specs.Filled.{filled, filled-none}
+use Rattle.mask.specs.declared.Mask.{Mask}
 use Rattle.lanes.specs.Lanes.{holds, kept}
+use Rattle.lanes.specs.PassLaws.{live-lanes, drop-turn, keep-turn}
 use borrow.Author.Needs.{needs}
 use Rattle.lanes.proofs.retain.Statement.{statement}
 use Rattle.lanes.proofs.retain.Tie as tie
 
 abbrev Inv-loop : tie.InvT-loop
-Inv-loop words bindings test mask left₀ n i₀ left i = (i ≤ n) × (left .live ≡ filled (λ k. getD (mask .live) k false && holds words bindings test k) i (left₀ .live))
+Inv-loop words bindings test mask n left₀ i₀ left i = (i ≤ n) × (left .live ≡ filled (λ k. getD (mask .live) k false && holds words bindings test k) i (mask .live))
 
 abbrev μ-loop : tie.MeasureT-loop
-μ-loop words bindings test mask left₀ n i₀ left i = n - i
-
-new-requires : tie.Need-new-requires Inv-loop μ-loop
-new-requires c κs = search needs
+μ-loop words bindings test mask n left₀ i₀ left i = n - i
 
 end-requires : tie.Need-end-requires Inv-loop μ-loop
 end-requires c κs = search needs
@@ -25,14 +25,14 @@ end-requires c κs = search needs
 loop-holds : tie.Need-loop-holds Inv-loop μ-loop
 loop-holds c = (search needs, filled-none _ _)
 
-element-copy-out-passes-live : tie.Need-element-copy-out-passes-live Inv-loop μ-loop
-element-copy-out-passes-live c = search needs
+element-copy-out-fails : tie.Need-element-copy-out-fails Inv-loop μ-loop
+element-copy-out-fails c = search needs
 
-passes-live-requires : tie.Need-passes-live-requires Inv-loop μ-loop
-passes-live-requires c κs = search needs
+fails-requires : tie.Need-fails-requires Inv-loop μ-loop
+fails-requires c κs = search needs
 
-element-write-left : tie.Need-element-write-left Inv-loop μ-loop
-element-write-left c = search needs
+drop-requires : tie.Need-drop-requires Inv-loop μ-loop
+drop-requires c κs = search needs
 
 add-i : tie.Need-add-i Inv-loop μ-loop
 add-i c = search needs
@@ -42,16 +42,27 @@ loop-less c = search needs
 
 loop-again : tie.Need-loop-again Inv-loop μ-loop
 loop-again c =
-    let l = c .before .before .before .loop in
-    let n : length (c .before .before .before .before .before .new .result .live) ≡ 256 = search needs in
-    (search needs, filled-turn _ (l .i) _ (l .left .live) _ false (l .inv .1) (c .passes-live .ensures) (omega arith))
+    let a = c .before .before .before .before .before .before .before .before .args in
+    let l = c .before .before .before .before .loop in
+    let test = holds (now (a .words)) (now (a .bindings)) (a .test) in
+    let m = a .t4 .live in
+    let w : length m ≡ 256 = search needs in
+    let h : l .i < length m = omega (arith, c .before .before .before .loop-test .taken, c .before .before .before .before .before .end .ensures .1) in
+    let fails = c .before .fails .ensures in (
+      search needs,
+      ⊎-elim
+          (λ x. ap (λ (y : Mask). y .live) (x .2) ∙ x .1 .ensures ∙ drop-turn m test (l .left .live) (l .i) (l .inv .1) h (sym fails ∙ x .0 .taken))
+          (λ x. ap (λ (y : Mask). y .live) (x .1) ∙ keep-turn m test (l .left .live) (l .i) (l .inv .1) h (sym fails ∙ x .0 .left))
+          (c .if1 .came),
+    )
 
 returns : tie.Need-returns Inv-loop μ-loop
 unfolding kept
 returns c =
     let l = c .before .loop in
-    let m = c .before .before .before .before .before .before .args .t4 .live in
-    live-marks m (search needs) _ _ (l .left .live) (l .i) (l .inv .1) (search needs) (c .before .before .before .new .ensures) (omega (arith, c .before .before .end .ensures .0)) (λ k q. rw q)
+    let m = c .before .before .before .before .before .args .t4 .live in
+    let w : length m ≡ 256 = search needs in
+    live-lanes m w _ m (l .left .live) false (l .i) (l .inv .1) w (omega (arith, c .before .before .end .ensures .0)) (λ k p q. rw q)
 
 pub retain-spec : {M : Type 1} → statement M
 retain-spec =
@@ -59,12 +70,11 @@ retain-spec =
     (tie.spec
     Inv-loop
     μ-loop
-    new-requires
     end-requires
     loop-holds
-    element-copy-out-passes-live
-    passes-live-requires
-    element-write-left
+    element-copy-out-fails
+    fails-requires
+    drop-requires
     add-i
     loop-less
     loop-again
