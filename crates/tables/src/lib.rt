@@ -2,6 +2,7 @@
 ghost use mathlib.Core.Path.{_≡_};
 ghost use Prim.Native.Nat.{_+_, _^_, _≤_, _<_};
 ghost use lib.ListN.{length, getD, replicate};
+ghost use Rattle.model.specs.Book.Contents.{firstOf};
 ghost use Rattle.words.specs.Filled.{filled};
 ghost use Rattle.tables.specs.Tables.{infoAt, infoOf, sameWords, Stands, foundRow, rowOf, Holds};
 
@@ -44,19 +45,24 @@ pub fn info_at(words: &[u32], body: usize) -> TableInfo
     }
 }
 
-// The same of the table with a number.
+// The word at which the body of the table with a number begins.
+fn body_of(words: &[u32], t: ids::TableId) -> usize
+    ensures { λ r. ⌜ (r ≡ firstOf (now (words .entry)) (t .0)) × (r < 4294967296) ⌝ }
+{
+    words::size_at(words, 2 + 3 * words::size(t.0))
+}
+
 pub fn info_of(words: &[u32], t: ids::TableId) -> TableInfo
     ensures { λ r. ⌜ r ≡ infoOf (now (words .entry)) (t .0) ⌝ }
 {
-    info_at(words, words::size_at(words, 2 + 3 * words::size(t.0)))
+    info_at(words, body_of(words, t))
 }
 
 // How many rows it has.
 pub fn rows_of(words: &[u32], t: ids::TableId) -> usize
     ensures { λ r. ⌜ (r ≡ infoOf (now (words .entry)) (t .0) .rows) × (r < 4294967296) ⌝ }
 {
-    let body = words::size_at(words, 2 + 3 * words::size(t.0));
-    words::size_at(words, body + 3)
+    words::size_at(words, body_of(words, t) + 3)
 }
 
 // The first k words of a row.

@@ -1,4 +1,4 @@
-use Prim.Native.Nat.{ℕ, _+_, _*_}
+use Prim.Native.Nat.{ℕ, _+_}
 use mathlib.Core.Path.{ap, _∙_}
 use lib.ListN.{getD}
 use denote.Ref.{now}
@@ -6,11 +6,8 @@ use borrow.Author.Needs.{needs}
 use Rattle.tables.proofs.rows_of.Statement.{statement}
 use Rattle.tables.proofs.rows_of.Tie as tie
 
-size-requires : tie.Need-size-requires
-size-requires c κs = search needs
-
-mul-size-at : tie.Need-mul-size-at
-mul-size-at c = search needs
+body-of-requires : tie.Need-body-of-requires
+body-of-requires c κs = search needs
 
 add-size-at : tie.Need-add-size-at
 add-size-at c = search needs
@@ -18,25 +15,8 @@ add-size-at c = search needs
 size-at-requires : tie.Need-size-at-requires
 size-at-requires c κs = search needs
 
-add-size-at-2 : tie.Need-add-size-at-2
-add-size-at-2 c = search needs
-
-size-at-requires-2 : tie.Need-size-at-requires-2
-size-at-requires-2 c κs = search needs
-
 returns : tie.Need-returns
-returns c =
-    let w = now (c .before .before .before .before .args .words) in
-    (c .size-at2 .ensures .0 ∙ ap (λ (x : ℕ). getD w (x + 3) 0) (c .before .size-at .ensures .0 ∙ ap (λ (x : ℕ). getD w (2 + 3 * x) 0) (c .before .before .size .ensures .0)), c .size-at2 .ensures .1)
+returns c = (c .size-at .ensures .0 ∙ ap (λ (x : ℕ). getD (now (c .before .before .before .args .words)) (x + 3) 0) (c .before .body-of .ensures .0), c .size-at .ensures .1)
 
 pub rows-of-spec : {M : Type 1} → statement M
-rows-of-spec =
-    tie.close
-    (tie.spec
-    size-requires
-    mul-size-at
-    add-size-at
-    size-at-requires
-    add-size-at-2
-    size-at-requires-2
-    returns)
+rows-of-spec = tie.close (tie.spec body-of-requires add-size-at size-at-requires returns)
