@@ -65,3 +65,7 @@ IndexAmong w table b index = (length index ≡ 0) ⊎ Has w table b index
 -- the index of a table's rows alone, or none
 abbrev pub IndexOf : List ℕ → TableInfo → List ℕ → Type 0
 IndexOf w table index = (length index ≡ 0) ⊎ ((table .rows ≤ 16384) × (index ≡ indexed (homeIn w table) (table .rows)))
+
+-- rows enough for an index to be of use, and no more than it has links for
+abbrev pub serves : ℕ → Bool
+serves rows = leb 32 rows && leb rows 16384

@@ -7,12 +7,12 @@ use mathlib.Core.List.{List}
 use native.Mathlib.Numerals.{add-one}
 use native.Mathlib.Decide.{decLt}
 use native.Mathlib.Omega.{arith}
-use lib.Dec.{eqb}
+use lib.Dec.{eqb, leb}
 use lib.ListN.{length, getD, set, replicate, length-set, length-replicate, getD-replicate}
 use lib.Seq.{getD-set-same, getD-set-other}
-use borrow.Author.Tests.{eqb-true, eqb-false}
-use Rattle.model.specs.Laws.Logic.{either, le-cases}
-use Rattle.hash_index.specs.Index.{endOf, added, indexed, Tails}
+use borrow.Author.Tests.{eqb-true, eqb-false, leb-true}
+use Rattle.model.specs.Laws.Logic.{either, le-cases, and-split}
+use Rattle.hash_index.specs.Index.{endOf, added, indexed, Tails, serves}
 use Rattle.hash_index.specs.Chains.{First, Last, none, some, first-other, first-kept, first-new, first-past, last-other, last-new, last-none}
 
 pub end-head : (last h : ℕ) → last ≡ 0 → h ≡ endOf last h
@@ -21,6 +21,9 @@ end-head last h e = rw e
 pub end-link : (last h : ℕ) → last ≢ 0 → 2047 + last ≡ endOf last h
 end-link zero h n = absurd (n refl)
 end-link (suc l) h n = omega arith
+
+pub serves-few : (rows : ℕ) → serves rows ≡ true → rows ≤ 16384
+serves-few rows e = leb-true rows 16384 (and-split (leb 32 rows) (leb rows 16384) e .1)
 
 -- ## The tails
 

@@ -1,6 +1,5 @@
 // The rows of all tables of a book in one index: those of a table are numbered past those of the tables before it.
 ghost use mathlib.Core.Path.{_≡_};
-ghost use mathlib.Core.Bool.{true};
 ghost use Prim.Native.Nat.{ℕ, _≤_, _<_};
 ghost use lib.ListN.{replicate};
 ghost use Rattle.tables.specs.Tables.{infoOf, Stands};
@@ -34,16 +33,4 @@ pub fn build_all(words: &[u32], n: usize, index: &mut [u32])
         first += info.rows;
         t += 1;
     }
-}
-
-// Whether the first n tables have rows enough for an index to be of use, and no more than it has links for.
-pub fn serves_all(words: &[u32], n: usize) -> bool
-    requires { ⌜ n ≤ 16 ⌝ }
-    ensures { λ r. ⌜ (r ≡ true → rowsBefore (now (words .entry)) n ≤ 16384) ⌝ }
-{
-    let rows = rows_before(words, TableId(n as u32));
-    if rows < 32 {
-        return false;
-    }
-    rows <= 16384
 }

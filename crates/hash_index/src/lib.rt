@@ -3,14 +3,13 @@ mod book;
 
 pub use book::build_all;
 pub use book::rows_before;
-pub use book::serves_all;
 ghost use mathlib.Core.Path.{_≡_};
 ghost use mathlib.Core.Bool.{true};
 ghost use Prim.Native.Nat.{_+_, _-_, _*_, _^_, _≤_, _<_};
 ghost use lib.ListN.{length, getD, replicate};
 ghost use Rattle.tables.specs.Tables.{Stands, rowAt, foundRow};
 ghost use Rattle.hash_index.specs.Fold.{spun, mixed};
-ghost use Rattle.hash_index.specs.Index.{homeAt, homeIn, endOf, added, rowsAdded, indexed, Tails, Has, isRow, IndexAmong, IndexOf};
+ghost use Rattle.hash_index.specs.Index.{homeAt, homeIn, endOf, added, rowsAdded, indexed, Tails, Has, isRow, IndexAmong, IndexOf, serves};
 use tables::Found;
 use tables::TableInfo;
 
@@ -145,12 +144,9 @@ pub fn look_up(words: &[u32], index: &[u32], info: TableInfo, key: &[u32; 16]) -
     look_up_among(words, index, info, 0, key)
 }
 
-// Whether a table has rows enough for an index to be of use, and no more than it has links for.
-pub fn serves(info: TableInfo) -> bool
-    ensures { λ r. ⌜ (r ≡ true → info .rows ≤ 16384) ⌝ }
+// Whether so many rows are enough for an index to be of use, and no more than it has links for.
+pub fn serves(rows: usize) -> bool
+    ensures { λ r. ⌜ r ≡ serves rows ⌝ }
 {
-    if info.rows <= 64 {
-        return false;
-    }
-    info.rows <= 16384
+    (32 <= rows) & (rows <= 16384)
 }

@@ -59,7 +59,7 @@ pub fn repeated(words: &[u32], at: usize) -> Reading
     ensures { λ r. ⌜ refusalOf r ≡ rowsRefusal (now (words .entry)) at ⌝ }
 {
     let info = tables::info_at(words, at);
-    if hash_index::serves(info) {
+    if hash_index::serves(info.rows) {
         return first_indexed(words, info);
     }
     first_repeat(words, &words[..0], info)

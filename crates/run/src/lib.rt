@@ -245,7 +245,7 @@ pub fn run_steps(
     ensures is { λ r. ⌜ _≡_ {A = Ran} (record { progress = r; bindings = now (bindings .exit); log = now (log .exit); index = now (index .exit); answer = now (answer .exit) }) (ranSteps (now (words .entry)) steps (record { progress = start; bindings = now (bindings .entry); log = now (log .entry); index = now (index .entry); answer = now (answer .entry) })) ⌝ }
     ensures fits { λ r. ⌜ (r .state .used ≤ length (now (log .entry))) × (r .done ≤ 64) × (r .at ≤ 1048576) ⌝ }
 {
-    if hash_index::serves_all(words, tables) {
+    if hash_index::serves(hash_index::rows_before(words, TableId(tables as u32))) {
         return run_indexed(
             words,
             tables,

@@ -1,18 +1,29 @@
-use mathlib.Core.Path.{refl}
+use mathlib.Core.Path.{refl, sym, _∙_}
 use mathlib.Core.Logic.{inl}
+use native.Mathlib.Omega.{arith}
 use denote.Ref.{now}
 use Rattle.model.specs.Laws.Book.{few-tables}
+use Rattle.hash_index.specs.IndexLaws.{serves-few}
 use borrow.Author.Needs.{needs}
 use Rattle.run.proofs.run_steps.Statement.{statement}
 use Rattle.run.proofs.run_steps.Tie as tie
 
-serves-all-requires : tie.Need-serves-all-requires
-serves-all-requires c κs = let q = c .before .before .before .before .before .pre in rw (q .1) (few-tables (now (c .before .before .before .before .before .args .words)) (q .0))
+cast-t13 : tie.Need-cast-t13
+cast-t13 c =
+    let q = c .before .before .before .before .before .pre in
+    omega (arith, q .1, few-tables (now (c .before .before .before .before .before .args .words)) (q .0))
+
+rows-before-requires : tie.Need-rows-before-requires
+rows-before-requires c κs = search needs
+
+serves-requires : tie.Need-serves-requires
+serves-requires c κs = search needs
 
 run-indexed-requires : tie.Need-run-indexed-requires
 run-indexed-requires c κs =
-    let q = c .before .before .before .before .before .before .before .before .before .before .before .pre in
-    (q .0, q .1, c .before .before .before .before .before .serves-all .ensures (c .before .before .before .before .if1 .taken), q .2, q .3, q .4, q .5, q .6, q .7, q .8)
+    let q = c .before .before .before .before .before .before .before .before .before .before .before .before .pre in
+    let few = serves-few (c .before .before .before .before .before .before .rows-before .result) (sym (c .before .before .before .before .before .serves .ensures) ∙ c .before .before .before .before .if1 .taken) in
+    (q .0, q .1, rw (c .before .before .before .before .before .before .rows-before .ensures) at few, q .2, q .3, q .4, q .5, q .6, q .7, q .8)
 
 same-length : tie.Need-same-length
 same-length c = search needs
@@ -34,7 +45,7 @@ slice-aggregate-run-by c = search needs
 
 run-by-requires : tie.Need-run-by-requires
 run-by-requires c κs =
-    let q = c .before .before .before .before .before .before .before .before .before .before .before .before .pre in
+    let q = c .before .before .before .before .before .before .before .before .before .before .before .before .before .pre in
     (q .0, inl refl, q .2, q .3, q .4, q .5, q .6, q .7, q .8)
 
 same-length-5 : tie.Need-same-length-5
@@ -56,7 +67,9 @@ pub run-steps-spec : {M : Type 1} → statement M
 run-steps-spec =
     tie.close
     (tie.spec
-    serves-all-requires
+    cast-t13
+    rows-before-requires
+    serves-requires
     run-indexed-requires
     same-length
     same-length-2
