@@ -185,12 +185,7 @@ module _ (home : ℕ → ℕ) where
   indexed-right (suc n) few small = right-more n (indexed home n) (indexed-right n (omega arith) small) few (small n)
 
   -- what adding a row asks for
-  pub tail-below : (n h : ℕ) → n ≤ 16384 → ((j : ℕ) → home j < 1024) → h < 1024 → getD (indexed home n) (1024 + h) 0 ≤ n
-  tail-below n h few small lt = below (indexed-right n few small .tails h lt)
-    where
-      below : {v : ℕ} → Last home n h v → v ≤ n
-      below (none f) = omega arith
-      below (some j lt e f) = omega arith
-
-  pub length-indexed : (n : ℕ) → n ≤ 16384 → ((j : ℕ) → home j < 1024) → length (indexed home n) ≡ 18432
-  length-indexed n few small = indexed-right n few small .size
+  pub indexed-tails : (n : ℕ) → ((j : ℕ) → home j < 1024) → Tails n (indexed home n)
+  unfolding indexed
+  indexed-tails zero small = tails-none
+  indexed-tails (suc n) small = subst (λ (k : ℕ). Tails k (added n (home n) (indexed home n))) (add-one n) (tails-more n (home n) (indexed home n) (indexed-tails n small) (small n))

@@ -6,8 +6,8 @@ use native.Mathlib.Omega.{arith}
 use denote.Ref.{now}
 use lib.ListN.{length, getD}
 use Rattle.model.specs.Laws.Logic.{either}
-use Rattle.hash_index.specs.Index.{homeIn, added}
-use Rattle.hash_index.specs.IndexLaws.{tail-below, length-indexed}
+use Rattle.hash_index.specs.Index.{homeIn, added, Tails}
+use Rattle.hash_index.specs.IndexLaws.{indexed-tails}
 use Rattle.hash_index.specs.SearchLaws.{row-home-below}
 use Rattle.commit.specs.Rows.{Rows, newInfo, appended}
 use Rattle.commit.specs.Indexed.{IndexedRows}
@@ -49,14 +49,10 @@ add-requires c κs =
     let s : Rows = record { words = w; part = a .part } in
     let t = newInfo (a .info) (a .part) in
     let n = a .part .count in
-    let m = few-rows (p .0 .some) (p .1) in
     let l = row-counted (a .info) (p .0) (now (a .row)) (p .3) s (p .1) (λ z. c .before .before .if2 .left (ap (λ (x : Rows). x .part .count) e ∙ z)) in
-    either (λ z. absurd (c .before .before .before .before .before .if1 .left z)) (λ q. (
-      ap length (q .1) ∙ length-indexed (homeIn w t) n (omega (arith, m, q .0)) (row-home-below w t),
-      omega (arith, l, q .0),
-      c .home .ensures .1,
-      subst (λ (x : List ℕ). getD x (1024 + c .home .result) 0 ≤ n) (sym (q .1)) (tail-below (homeIn w t) n (c .home .result) (omega (arith, m, q .0)) (row-home-below w t) (c .home .ensures .1)),
-    )) (p .2)
+    either (λ z. absurd (c .before .before .before .before .before .if1 .left z)) (λ q.
+    let s = subst (Tails n) (sym (q .1)) (indexed-tails (homeIn w t) n (row-home-below w t)) in
+    (s .size, omega (arith, l, q .0), c .home .ensures .1, s .below (c .home .result) (c .home .ensures .1))) (p .2)
 
 same-length-3 : tie.Need-same-length-3
 same-length-3 c = search needs
