@@ -1,6 +1,8 @@
 // The log's rows put into a table: by an index of its rows, where that is sooner made than the rows are looked at.
 ghost use mathlib.Core.Path.{_≡_};
+ghost use mathlib.Core.Bool.{_&&_, _||_};
 ghost use Prim.Native.Nat.{_≤_};
+ghost use lib.Dec.{leb};
 ghost use lib.ListN.{length};
 ghost use Rattle.tables.specs.Tables.{infoOf};
 ghost use Rattle.commit.specs.Rows.{Rows, Sound, Stand};
@@ -12,14 +14,10 @@ use ids::TableId;
 use tables::TableInfo;
 
 // Whether there are rows enough, in a log of so many words and in a table that has `count`.
-fn is_worth_it(log: usize, count: usize) -> bool {
-    if log < 128 {
-        return false;
-    }
-    if 512 <= log {
-        return true;
-    }
-    64 <= count
+fn serves(log: usize, count: usize) -> bool
+    ensures { λ r. ⌜ r ≡ (leb 512 log || (leb 128 log && leb 64 count)) ⌝ }
+{
+    (512 <= log) | ((128 <= log) & (64 <= count))
 }
 
 // By an index that is made for it.
@@ -51,7 +49,7 @@ pub fn insert_rows(
     requires { ⌜ (info ≡ infoOf (now words) (t .0)) × Sound info × Stand (info .width) (record { words = now rows; part = start }) × (length (now rows) ≤ 16384) ⌝ }
     ensures { λ r. ⌜ _≡_ {A = Rows} (record { words = now (rows .exit); part = r }) (inserted (now (words .entry)) (now (log .entry)) (t .0) info (record { words = now (rows .entry); part = start })) ⌝ }
 {
-    if is_worth_it(log.len(), start.count) {
+    if serves(log.len(), start.count) {
         return insert_indexed(words, log, t, info, rows, start);
     }
     let mut none = [0u32; 0];

@@ -1,7 +1,8 @@
 // A table's old rows that no removal of the log names. The keys that are removed are gathered once, as the rows of a table of their own, and each old row's key is looked up there: by an index, where that is sooner made than the keys are looked at.
 ghost use mathlib.Core.Path.{_≡_};
-ghost use mathlib.Core.Bool.{true};
-ghost use Prim.Native.Nat.{_+_, _*_, _≤_};
+ghost use mathlib.Core.Bool.{true, _&&_};
+ghost use Prim.Native.Nat.{_+_, _*_, _/_, _≤_};
+ghost use lib.Dec.{leb};
 ghost use lib.ListN.{length, take};
 ghost use Rattle.tables.specs.Tables.{infoOf, Stands, RowsStand};
 ghost use Rattle.hash_index.specs.Index.{IndexOf};
@@ -94,8 +95,10 @@ fn keep_all(
     part
 }
 
-// Whether there are keys and rows enough for an index.
-fn is_worth_it(keys: usize, rows: usize) -> bool {
+// Whether there are keys and rows enough: each row is compared with each key where there is no index.
+fn serves(keys: usize, rows: usize) -> bool
+    ensures { λ r. ⌜ r ≡ (leb 16 keys && leb (4096 / keys) rows) ⌝ }
+{
     if keys < 16 {
         return false;
     }
@@ -141,7 +144,7 @@ pub fn keep(
         rows: n,
         at: 0,
     };
-    if is_worth_it(n, info.rows) {
+    if serves(n, info.rows) {
         return keep_indexed(words, &gone[..end], removed, info, rows, start);
     }
     let none = [0u32; 0];

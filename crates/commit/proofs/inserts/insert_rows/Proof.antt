@@ -4,8 +4,8 @@ use borrow.Author.Needs.{needs}
 use Rattle.commit.proofs.inserts.insert_rows.Statement.{statement}
 use Rattle.commit.proofs.inserts.insert_rows.Tie as tie
 
-is-worth-it-requires : tie.Need-is-worth-it-requires
-is-worth-it-requires c κs = search needs
+serves-requires : tie.Need-serves-requires
+serves-requires c κs = search needs
 
 insert-indexed-requires : tie.Need-insert-indexed-requires
 insert-indexed-requires c κs = search needs
@@ -32,7 +32,7 @@ pub insert-rows-spec : {M : Type 1} → statement M
 insert-rows-spec =
     tie.close
     (tie.spec
-    is-worth-it-requires
+    serves-requires
     insert-indexed-requires
     same-length
     returns

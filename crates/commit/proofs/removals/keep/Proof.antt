@@ -35,8 +35,8 @@ gather-all-requires c κs = let p = c .before .before .before .before .before .p
 mul-end : tie.Need-mul-end
 mul-end c = search needs
 
-is-worth-it-requires : tie.Need-is-worth-it-requires
-is-worth-it-requires c κs = search needs
+serves-requires : tie.Need-serves-requires
+serves-requires c κs = search needs
 
 slice-reshare-prefix-keep-indexed : tie.Need-slice-reshare-prefix-keep-indexed
 slice-reshare-prefix-keep-indexed c = fits (c .before .before .before .before .before)
@@ -83,7 +83,7 @@ keep-spec =
     (tie.spec
     gather-all-requires
     mul-end
-    is-worth-it-requires
+    serves-requires
     slice-reshare-prefix-keep-indexed
     slice-aggregate-keep-indexed
     keep-indexed-requires
