@@ -36,9 +36,9 @@ fn commit_table(
     let id = TableId(t as u32);
     let info = tables::info_of(words, id);
     let start = Part {
-        from: done.used,
         count: 0,
         used: done.used,
+        from: done.used as u32,
         over: done.over,
     };
     let old = removals::keep(words, log, id, info, gone, rows, start);

@@ -9,11 +9,11 @@ use crate::merge;
 use tables::Found;
 use tables::TableInfo;
 
-// The word at which a table's rows begin, how many rows there are, and how many words are used up to their end; or a row had no room.
+// How many rows a table has, how many words are used up to their end, and the word at which they begin; or a row had no room. The last two fill half a word of the machine: were it one byte, each copy of a Part would wait for the one before it.
 pub struct Part {
-    pub from: usize,
     pub count: usize,
     pub used: usize,
+    pub from: u32,
     pub over: bool,
 }
 
@@ -30,17 +30,17 @@ pub fn append(rows: &mut [u32], part: Part, row: &[u32]) -> Part
     }
     if rows.len() < used + row.len() {
         return Part {
-            from,
             count,
             used,
+            from,
             over: true,
         };
     }
     words::copy(row, rows, used);
     Part {
-        from,
         count: count + 1,
         used: used + row.len(),
+        from,
         over: false,
     }
 }
@@ -54,7 +54,7 @@ pub fn table_of(info: TableInfo, part: Part) -> TableInfo
         width: info.width,
         merge: info.merge,
         rows: part.count,
-        at: part.from,
+        at: words::size(part.from),
     }
 }
 

@@ -31,6 +31,9 @@ cast-done c = search needs
 info-of-requires : tie.Need-info-of-requires
 info-of-requires c κs = search needs
 
+cast-done-2 : tie.Need-cast-done-2
+cast-done-2 c = omega (arith, c .before .before .before .before .before .pre .4, c .before .before .before .before .before .pre .5)
+
 keep-requires : tie.Need-keep-requires
 keep-requires c κs =
     let a = c .before .before .before .before .before .before .before .args in
@@ -50,8 +53,8 @@ insert-rows-requires c κs =
       omega (arith, ap (λ (s : Rows). length (s .words)) (old-is (c .before .before .before .before .before)), k .1, pre .5),
     )
 
-cast-done-2 : tie.Need-cast-done-2
-cast-done-2 c =
+cast-done-3 : tie.Need-cast-done-3
+cast-done-3 c =
     let a = c .before .before .before .before .before .before .before .before .before .before .before .before .before .before .before .before .before .args in
     let pre = c .before .before .before .before .before .before .before .before .before .before .before .before .before .before .before .before .before .pre in
     let k = table-keeps (now (a .words)) (now (a .log)) (a .t) (record { words = now (a .rows); result = a .t6 }) (pre .1) (pre .4) in
@@ -81,9 +84,10 @@ commit-table-spec =
     (tie.spec
     cast-done
     info-of-requires
+    cast-done-2
     keep-requires
     insert-rows-requires
-    cast-done-2
+    cast-done-3
     mul-done
     element-write-done
     same-length
