@@ -104,7 +104,7 @@ fn decide_words(
     tables: &mut [u32],
     answer: &mut [u32],
 ) -> Outcome
-    requires { ⌜ (bytesRefusal (now book) ≡ none) × (length (now words) ≡ 16384) × (now bindings ≡ replicate 8192 0) × (now index ≡ replicate 8192 0) × (now log ≡ replicate (length (now log)) 0) × (length (now log) ≤ 16384) × (length (now tables) ≤ 16384) × (now answer ≡ replicate (length (now answer)) 0) ⌝ }
+    requires { ⌜ (bytesRefusal (now book) ≡ none) × (length (wordsOf (now book)) ≤ length (now words)) × (now bindings ≡ replicate 8192 0) × (now index ≡ replicate 8192 0) × (now log ≡ replicate (length (now log)) 0) × (length (now log) ≤ 16384) × (length (now tables) ≤ 16384) × (now answer ≡ replicate (length (now answer)) 0) ⌝ }
     ensures { λ r. ⌜ Decided (lentOf (now (bindings .entry)) (now (index .entry)) (now (log .entry)) (now (tables .entry)) (now (answer .entry))) (now (book .entry)) r (now (answer .exit)) ⌝ }
 {
     let n = book::load_words(book, words);
@@ -112,6 +112,26 @@ fn decide_words(
         Verdict::Pass => run_book(&words[..n], bindings, index, log, tables, answer),
         Verdict::Refused(number, place) => Outcome::Refused(number, place),
     }
+}
+
+// The same, with words of its own: those of a small book have room in an array that is sooner cleared.
+fn decide_book(
+    book: &[u8],
+    bindings: &mut [u32],
+    index: &mut [u32],
+    log: &mut [u32],
+    tables: &mut [u32],
+    answer: &mut [u32],
+) -> Outcome
+    requires { ⌜ (bytesRefusal (now book) ≡ none) × (now bindings ≡ replicate 8192 0) × (now index ≡ replicate 8192 0) × (now log ≡ replicate (length (now log)) 0) × (length (now log) ≤ 16384) × (length (now tables) ≤ 16384) × (now answer ≡ replicate (length (now answer)) 0) ⌝ }
+    ensures { λ r. ⌜ Decided (lentOf (now (bindings .entry)) (now (index .entry)) (now (log .entry)) (now (tables .entry)) (now (answer .entry))) (now (book .entry)) r (now (answer .exit)) ⌝ }
+{
+    if book.len() <= 4096 {
+        let mut few = [0u32; 1024];
+        return decide_words(book, &mut few, bindings, index, log, tables, answer);
+    }
+    let mut words = [0u32; 16384];
+    decide_words(book, &mut words, bindings, index, log, tables, answer)
 }
 
 // Refusal 14: whether the lengths are right.
@@ -137,10 +157,7 @@ fn decide(
         return Outcome::Refused(14, 0);
     }
     match book::length_refusal(book) {
-        Verdict::Pass => {
-            let mut words = [0u32; 16384];
-            decide_words(book, &mut words, bindings, index, log, tables, answer)
-        }
+        Verdict::Pass => decide_book(book, bindings, index, log, tables, answer),
         Verdict::Refused(number, place) => Outcome::Refused(number, place),
     }
 }

@@ -25,15 +25,12 @@ length-refusal-requires c κs = search needs
 enum-told : tie.Need-enum-told
 enum-told c = search needs
 
-slice-aggregate-decide-words : tie.Need-slice-aggregate-decide-words
-slice-aggregate-decide-words c = search needs
-
-decide-words-requires : tie.Need-decide-words-requires
-decide-words-requires c κs =
-    let a = c .before .before .before .before .before .before .before .before .before .before .before .before .before .before .before .before .before .args in
-    let p = c .before .before .before .before .before .before .before .before .before .before .before .before .before .before .before .before .before .pre in
-    let fit = true-fit (length (now (a .bindings))) (length (now (a .index))) (length (now (a .log))) (length (now (a .tables))) (sym (c .before .before .before .before .before .before .before .before .before .before .lengths-fit .ensures) ∙ not-false _ (c .before .before .before .before .before .before .before .before .before .if1 .left)) in
-    (sym (c .before .before .before .before .before .before .before .before .length-refusal .ensures) ∙ ap verdictOf (c .before .before .before .before .before .before .enum-told .given .1), search needs, zeros-as (length (now (a .bindings))) 8192 _ (p .0) (fit .0), zeros-as (length (now (a .index))) 8192 _ (p .1) (fit .1), p .2, fit .2, fit .3, p .3)
+decide-book-requires : tie.Need-decide-book-requires
+decide-book-requires c κs =
+    let a = c .before .before .before .before .before .before .before .before .before .before .before .before .before .before .before .before .args in
+    let p = c .before .before .before .before .before .before .before .before .before .before .before .before .before .before .before .before .pre in
+    let fit = true-fit (length (now (a .bindings))) (length (now (a .index))) (length (now (a .log))) (length (now (a .tables))) (sym (c .before .before .before .before .before .before .before .before .before .lengths-fit .ensures) ∙ not-false _ (c .before .before .before .before .before .before .before .before .if1 .left)) in
+    (sym (c .before .before .before .before .before .before .before .length-refusal .ensures) ∙ ap verdictOf (c .before .before .before .before .before .enum-told .given .1), zeros-as (length (now (a .bindings))) 8192 _ (p .0) (fit .0), zeros-as (length (now (a .index))) 8192 _ (p .1) (fit .1), p .2, fit .2, fit .3, p .3)
 
 enum-known-number : tie.Need-enum-known-number
 enum-known-number c = search needs
@@ -54,7 +51,7 @@ same-length-5 : tie.Need-same-length-5
 same-length-5 c = search needs
 
 returns-2 : tie.Need-returns-2
-returns-2 c = c .before .before .before .before .before .before .before .before .before .before .before .decide-words .ensures
+returns-2 c = c .before .before .before .before .before .before .before .before .before .before .decide-book .ensures
 
 returns-3 : tie.Need-returns-3
 returns-3 c =
@@ -70,8 +67,7 @@ decide-spec =
     returns
     length-refusal-requires
     enum-told
-    slice-aggregate-decide-words
-    decide-words-requires
+    decide-book-requires
     enum-known-number
     same-length
     same-length-2

@@ -11,7 +11,7 @@ use Rattle.engine.proofs.decide_words.Statement.{statement}
 use Rattle.engine.proofs.decide_words.Tie as tie
 
 load-words-requires : tie.Need-load-words-requires
-load-words-requires c κs = omega (arith, words-most (now (c .before .before .before .before .before .before .before .before .args .book)) (c .before .before .before .before .before .before .before .before .pre .0), c .before .before .before .before .before .before .before .before .pre .1)
+load-words-requires c κs = c .before .before .before .before .before .before .before .before .pre .1
 
 slice-reshare-prefix-first-refusal : tie.Need-slice-reshare-prefix-first-refusal
 slice-reshare-prefix-first-refusal c =
