@@ -6,7 +6,8 @@ use mathlib.Core.Option.{Option, none, some}
 use mathlib.Core.List.{List, [], _++_}
 use native.Mathlib.Numerals.{add-one}
 use native.Mathlib.Omega.{arith}
-use lib.ListN.{length, take, drop, length-append, length-drop}
+use lib.Dec.{eqb}
+use lib.ListN.{length, getD, take, drop, length-append, length-drop}
 use lib.Seq.{paste, take-paste, take-all, take-append-le, drop-append-le, drop-at}
 use Rattle.model.specs.Basics.{when, eqList, found, only, least}
 use Rattle.model.specs.Book.Decode.{part}
@@ -15,7 +16,7 @@ use Rattle.model.specs.Laws.Bodies.{length-part}
 use Rattle.tables.specs.declared.Found.the-variants.{At, Nothing}
 use Rattle.tables.specs.Tables.{infoOf, front, sameWords, foundRow}
 use Rattle.tables.specs.TablesLaws.{next-row, row-within}
-use Rattle.commit.specs.Walk.{endOf, isRemoval, removeTurn, removed, Keys, withKey, gatherTurn, removedKeys, keyTable, isThere}
+use Rattle.commit.specs.Walk.{endOf, removalTurn, anyRemoval, isRemoval, removeTurn, removed, Keys, withKey, gatherTurn, removedKeys, keyTable, isThere}
 use Rattle.commit.specs.WalkLaws.{end-after, removal-end, walked-both}
 
 -- ## One key more
@@ -79,3 +80,14 @@ module _ (w log : List ℕ) (t k : ℕ) (keys : k ≡ infoOf w t .keys) where
       by : (c : Bool) → isRemoval log t p ≡ c → when c (withKey (part log (p + 2) k)) s .count * k + 2 * when c (withKey (part log (p + 2) k)) s .count ≤ endOf w log p
       by true q = omega (arith, removal-end w log p t q, keys, next-row (s .count) k)
       by false q = omega (arith, end-after w log p)
+
+-- where no record is a removal, no key is gathered
+pub none-gathered : (w log : List ℕ) (t k : ℕ) → anyRemoval w log ≡ false → record { words = []; count = 0 } ≡ removedKeys w log t k
+unfolding anyRemoval removedKeys
+none-gathered w log t k = walked-both (endOf w log) (length log) (removalTurn log) (gatherTurn log t k) (λ b s. b ≡ false → record { words = []; count = 0 } ≡ s) (λ p b s l h. one b (eqb (getD log p 0) 1) (eqb (getD log (p + 1) 0) t) (withKey (part log (p + 2) k)) s h) false (record { words = []; count = 0 }) (λ _. refl)
+  where
+    one : (b r here : Bool) (f : Keys → Keys) (s : Keys) → (b ≡ false → record { words = []; count = 0 } ≡ s) → b || r ≡ false → record { words = []; count = 0 } ≡ when (here && r) f s
+    one true r here f s h e = absurd (let z : _≡_ {A = ℕ} 0 1 = cc in omega arith)
+    one false true here f s h e = absurd (let z : _≡_ {A = ℕ} 0 1 = cc in omega arith)
+    one false false true f s h e = h refl
+    one false false false f s h e = h refl

@@ -32,6 +32,13 @@ start a = record { at = 0; state = a }
 unfoldable pub walked : {A : Type 0} → (ℕ → ℕ) → ℕ → (ℕ → A → A) → A → A
 walked end n f a = iter (pass end n f) n (start a) .state
 
+-- some record is a removal
+abbrev pub removalTurn : List ℕ → ℕ → Bool → Bool
+removalTurn log p b = b || eqb (getD log p 0) 1
+
+unfoldable pub anyRemoval : List ℕ → List ℕ → Bool
+anyRemoval w log = walked (endOf w log) (length log) (removalTurn log) false
+
 -- ## Of table t
 
 -- whether the record at p is a removal; an insert or a predicted row

@@ -10,6 +10,7 @@ ghost use mathlib.Core.Path.{_≡_};
 ghost use Prim.Native.Nat.{ℕ, _<_, _≤_};
 ghost use lib.ListN.{length};
 ghost use Rattle.tables.specs.Tables.{infoOf, RowsStand};
+ghost use Rattle.commit.specs.Walk.{anyRemoval};
 ghost use Rattle.commit.specs.Commit.{Left, tableCommitted, committedRows};
 use crate::rows::Part;
 use ids::TableId;
@@ -29,8 +30,9 @@ fn commit_table(
     gone: &mut [u32],
     rows: &mut [u32],
     mut done: Committed,
+    removes: bool,
 ) -> Committed
-    requires { ⌜ (t < 16) × RowsStand (now words) (infoOf (now words) t) × (length (now log) ≤ length (now gone)) × (length (now log) ≤ 16384) × (done .used ≤ length (now rows)) × (length (now rows) ≤ 16384) ⌝ }
+    requires { ⌜ (t < 16) × RowsStand (now words) (infoOf (now words) t) × (length (now log) ≤ length (now gone)) × (length (now log) ≤ 16384) × (done .used ≤ length (now rows)) × (length (now rows) ≤ 16384) × (removes ≡ anyRemoval (now words) (now log)) ⌝ }
     ensures { λ r. ⌜ _≡_ {A = Left} (record { words = now (rows .exit); result = r }) (tableCommitted (now (words .entry)) (now (log .entry)) t (record { words = now (rows .entry); result = done })) ⌝ }
 {
     let id = TableId(t as u32);
@@ -41,7 +43,7 @@ fn commit_table(
         from: done.used as u32,
         over: done.over,
     };
-    let old = removals::keep(words, log, id, info, gone, rows, start);
+    let old = removals::keep(words, log, id, info, gone, rows, start, removes);
     let all = inserts::insert_rows(words, log, id, info, rows, old);
     done.counts[t] = all.count as u32;
     done.used = all.used;
@@ -60,6 +62,7 @@ fn commit_all(
     requires { ⌜ (tables ≤ 16) × (length (now log) ≤ 16384) × (length (now log) ≤ length (now gone)) × (length (now rows) ≤ 16384) × ((t : ℕ) → t < tables → RowsStand (now words) (infoOf (now words) t)) ⌝ }
     ensures { λ r. ⌜ _≡_ {A = Left} (record { words = now (rows .exit); result = r }) (committedRows (now (words .entry)) tables (now (log .entry)) (now (rows .entry))) ⌝ }
 {
+    let removes = records::any_removal(words, log);
     let mut done = Committed {
         counts: [0u32; 16],
         used: 0,
@@ -67,7 +70,7 @@ fn commit_all(
     };
     let mut t = 0;
     while t < tables {
-        done = commit_table(words, log, t, gone, rows, done);
+        done = commit_table(words, log, t, gone, rows, done, removes);
         t += 1;
     }
     done

@@ -6,7 +6,7 @@ ghost use lib.ListN.{length};
 ghost use Rattle.tables.specs.Tables.{infoOf};
 ghost use Rattle.commit.specs.Rows.{Rows, Sound, Stand};
 ghost use Rattle.commit.specs.Indexed.{IndexedRows};
-ghost use Rattle.commit.specs.Walk.{endOf, isInsertion, insertRow, inserted};
+ghost use Rattle.commit.specs.Walk.{endOf, anyRemoval, isInsertion, insertRow, inserted};
 use crate::rows;
 use crate::rows::Part;
 use ids::TableId;
@@ -24,6 +24,21 @@ pub fn end_of(words: &[u32], log: &[u32], p: usize) -> usize
     } else {
         p + 2 + info.width
     }
+}
+
+// Whether some record is a removal.
+pub fn any_removal(words: &[u32], log: &[u32]) -> bool
+    ensures { λ r. ⌜ r ≡ anyRemoval (now (words .entry)) (now (log .entry)) ⌝ }
+{
+    let mut any = false;
+    let mut p = 0;
+    let mut end = end_of(words, log, 0);
+    while end <= log.len() {
+        any = any | (words::word(log, p) == 1);
+        p = end;
+        end = end_of(words, log, p);
+    }
+    any
 }
 
 // The row of the record at p, if it is one of table t.

@@ -7,7 +7,7 @@ ghost use lib.ListN.{length, take};
 ghost use Rattle.tables.specs.Tables.{infoOf, Stands, RowsStand};
 ghost use Rattle.hash_index.specs.Index.{IndexOf};
 ghost use Rattle.commit.specs.Rows.{Rows, Stand};
-ghost use Rattle.commit.specs.Walk.{isRemoval, Keys, gatherTurn, removedKeys};
+ghost use Rattle.commit.specs.Walk.{anyRemoval, isRemoval, Keys, gatherTurn, removedKeys};
 ghost use Rattle.commit.specs.Commit.{kept, spareRow, spared};
 use crate::records;
 use crate::rows;
@@ -47,6 +47,24 @@ fn gather_all(words: &[u32], log: &[u32], t: TableId, k: usize, gone: &mut [u32]
         end = records::end_of(words, log, p);
     }
     n
+}
+
+// The same, where it is known whether there is a removal at all: most logs have none.
+fn gather_if(
+    words: &[u32],
+    log: &[u32],
+    t: TableId,
+    k: usize,
+    gone: &mut [u32],
+    removes: bool,
+) -> usize
+    requires { ⌜ (k ≡ infoOf (now words) (t .0) .keys) × (length (now log) ≤ length (now gone)) × (removes ≡ anyRemoval (now words) (now log)) ⌝ }
+    ensures { λ r. ⌜ (r * k + 2 * r ≤ length (now (log .entry))) × (_≡_ {A = Keys} (record { words = take (r * k) (now (gone .exit)); count = r }) (removedKeys (now (words .entry)) (now (log .entry)) (t .0) k)) ⌝ }
+{
+    if removes {
+        return gather_all(words, log, t, k, gone);
+    }
+    0
 }
 
 // An old row, unless its key is that of a row of the table `removed`, whose rows are the words `gone`. An empty index is none.
@@ -122,7 +140,7 @@ fn keep_indexed(
     keep_all(words, gone, &index, removed, info, rows, start)
 }
 
-// A table's old rows that no removal names. `gone` is lent for the removed keys: a table's rows, of which no word is a value.
+// A table's old rows that no removal names. `gone` is lent for the removed keys: a table's rows, of which no word is a value. `removes` says whether the log has any.
 pub fn keep(
     words: &[u32],
     log: &[u32],
@@ -131,11 +149,12 @@ pub fn keep(
     gone: &mut [u32],
     rows: &mut [u32],
     start: Part,
+    removes: bool,
 ) -> Part
-    requires { ⌜ (info ≡ infoOf (now words) (t .0)) × RowsStand (now words) info × (length (now log) ≤ length (now gone)) × (length (now log) ≤ 16384) × Stand (info .width) (record { words = now rows; part = start }) ⌝ }
+    requires { ⌜ (info ≡ infoOf (now words) (t .0)) × RowsStand (now words) info × (length (now log) ≤ length (now gone)) × (length (now log) ≤ 16384) × Stand (info .width) (record { words = now rows; part = start }) × (removes ≡ anyRemoval (now words) (now log)) ⌝ }
     ensures { λ r. ⌜ _≡_ {A = Rows} (record { words = now (rows .exit); part = r }) (kept (now (words .entry)) (now (log .entry)) (t .0) info (info .rows) (record { words = now (rows .entry); part = start })) ⌝ }
 {
-    let n = gather_all(words, log, t, info.keys, gone);
+    let n = gather_if(words, log, t, info.keys, gone, removes);
     let end = n * info.keys;
     let removed = TableInfo {
         keys: info.keys,

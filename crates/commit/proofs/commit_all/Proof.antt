@@ -13,12 +13,15 @@ use Rattle.commit.proofs.commit_all.Statement.{statement}
 use Rattle.commit.proofs.commit_all.Tie as tie
 
 abbrev Inv-loop : tie.InvT-loop
-Inv-loop words tables log gone₀ rows₀ done₀ t₀ gone rows done t =
+Inv-loop words tables log gone₀ rows₀ removes done₀ t₀ gone rows done t =
     (t ≤ tables) × (length gone ≡ length gone₀) × (length rows ≡ length rows₀) × (done .used ≤ length rows₀)
     × (_≡_ {A = Left} (record { words = rows; result = done }) (iter (tableCommitted words log) t (record { words = rows₀; result = record { counts = replicate 16 0; used = 0; over = false } })))
 
 abbrev μ-loop : tie.MeasureT-loop
-μ-loop words tables log gone₀ rows₀ done₀ t₀ gone rows done t = tables - t
+μ-loop words tables log gone₀ rows₀ removes done₀ t₀ gone rows done t = tables - t
+
+any-removal-requires : tie.Need-any-removal-requires Inv-loop μ-loop
+any-removal-requires c κs = search needs
 
 loop-holds : tie.Need-loop-holds Inv-loop μ-loop
 loop-holds c = (search needs, search needs, refl, omega arith, refl)
@@ -26,8 +29,8 @@ loop-holds c = (search needs, search needs, refl, omega arith, refl)
 commit-table-requires : tie.Need-commit-table-requires Inv-loop μ-loop
 commit-table-requires c κs =
     let l = c .before .before .before .loop in
-    let pre = c .before .before .before .before .before .before .before .before .pre in
-    (omega arith, pre .4 (l .t) (c .before .before .loop-test .taken), omega (arith, l .inv .1, pre .2), pre .1, omega (arith, l .inv .2, l .inv .3), omega (arith, pre .3, l .inv .2))
+    let pre = c .before .before .before .before .before .before .before .before .before .pre in
+    (omega arith, pre .4 (l .t) (c .before .before .loop-test .taken), omega (arith, l .inv .1, pre .2), pre .1, omega (arith, l .inv .2, l .inv .3), omega (arith, pre .3, l .inv .2), c .before .before .before .before .any-removal .ensures)
 
 add-t : tie.Need-add-t Inv-loop μ-loop
 add-t c = search needs
@@ -37,10 +40,10 @@ loop-less c = search needs
 
 loop-again : tie.Need-loop-again Inv-loop μ-loop
 loop-again c =
-    let a = c .before .before .before .before .before .before .before .before .before .before .before .before .before .args in
+    let a = c .before .before .before .before .before .before .before .before .before .before .before .before .before .before .args in
     let l = c .before .before .before .before .before .before .before .before .loop in
     let r = c .before .before .before .before .commit-table .ensures in
-    let f = table-fits (now (a .words)) (now (a .log)) (l .t) (record { words = l .rows; result = l .done }) (c .before .before .before .before .before .before .before .before .before .before .before .before .before .pre .4 (l .t) (c .before .before .before .before .before .before .before .loop-test .taken)) (omega (arith, l .inv .2, l .inv .3)) in (
+    let f = table-fits (now (a .words)) (now (a .log)) (l .t) (record { words = l .rows; result = l .done }) (c .before .before .before .before .before .before .before .before .before .before .before .before .before .before .pre .4 (l .t) (c .before .before .before .before .before .before .before .loop-test .taken)) (omega (arith, l .inv .2, l .inv .3)) in (
       search needs,
       c .before .before .before .before .commit-table .kept .1 .1 .1 .0 ∙ l .inv .1,
       ap (λ (x : Left). length (x .words)) r ∙ f .0 ∙ l .inv .2,
@@ -58,7 +61,7 @@ returns : tie.Need-returns Inv-loop μ-loop
 unfolding committedRows
 returns c =
     let l = c .before .loop in
-    let e : l .t ≡ c .before .before .before .before .before .before .args .tables = omega arith in
+    let e : l .t ≡ c .before .before .before .before .before .before .before .args .tables = omega arith in
     rw e at (l .inv .4)
 
 pub commit-all-spec : {M : Type 1} → statement M
@@ -67,6 +70,7 @@ commit-all-spec =
     (tie.spec
     Inv-loop
     μ-loop
+    any-removal-requires
     loop-holds
     commit-table-requires
     add-t

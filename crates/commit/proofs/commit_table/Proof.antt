@@ -39,7 +39,7 @@ keep-requires c κs =
     let a = c .before .before .before .before .before .before .before .args in
     let pre = c .before .before .before .before .before .before .before .pre in
     let e = c .before .before .info-of .ensures in
-    (e, subst (RowsStand (now (a .words))) (sym e) (pre .1), pre .2, pre .3, record { used = omega arith; within = pre .4 })
+    (e, subst (RowsStand (now (a .words))) (sym e) (pre .1), pre .2, pre .3, record { used = omega arith; within = pre .4 }, pre .6)
 
 insert-rows-requires : tie.Need-insert-rows-requires
 insert-rows-requires c κs =

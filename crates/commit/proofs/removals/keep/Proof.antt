@@ -16,21 +16,21 @@ use Rattle.commit.proofs.removals.keep.Statement.{statement}
 use Rattle.commit.proofs.removals.keep.Tie as tie
 
 -- the gathered keys have room, and stand there as rows
-fits : (c : tie.After-gather-all) → c .gather-all .result * c .before .before .before .before .before .before .args .info .keys ≤ length (c .gather-all .last .1 .1 .1 .1 .0)
-fits c = omega (arith, c .gather-all .ensures .0, c .gather-all .kept .1 .1 .1 .1 .0, c .before .before .before .before .before .before .pre .2)
+fits : (c : tie.After-gather-if) → c .gather-if .result * c .before .before .before .before .before .before .args .info .keys ≤ length (c .gather-if .last .1 .1 .1 .1 .0)
+fits c = omega (arith, c .gather-if .ensures .0, c .gather-if .kept .1 .1 .1 .1 .0, c .before .before .before .before .before .before .pre .2)
 
-stand : (c : tie.After-gather-all) → Stands (take (c .gather-all .result * c .before .before .before .before .before .before .args .info .keys) (c .gather-all .last .1 .1 .1 .1 .0)) (keyTable (c .before .before .before .before .before .before .args .info .keys) (c .gather-all .result))
-stand c = record { rows = omega (arith, length-take-le (c .gather-all .result * c .before .before .before .before .before .before .args .info .keys) (c .gather-all .last .1 .1 .1 .1 .0) (fits c)); keys = omega arith; few = c .before .before .before .before .before .before .pre .1 .stands .few }
+stand : (c : tie.After-gather-if) → Stands (take (c .gather-if .result * c .before .before .before .before .before .before .args .info .keys) (c .gather-if .last .1 .1 .1 .1 .0)) (keyTable (c .before .before .before .before .before .before .args .info .keys) (c .gather-if .result))
+stand c = record { rows = omega (arith, length-take-le (c .gather-if .result * c .before .before .before .before .before .before .args .info .keys) (c .gather-if .last .1 .1 .1 .1 .0) (fits c)); keys = omega arith; few = c .before .before .before .before .before .before .pre .1 .stands .few }
 
 -- the rows that they spare are those that are kept
-rows-kept : (c : tie.After-gather-all) (s : Rows) → spared (take (c .gather-all .result * c .before .before .before .before .before .before .args .info .keys) (c .gather-all .last .1 .1 .1 .1 .0)) (keyTable (c .before .before .before .before .before .before .args .info .keys) (c .gather-all .result)) (now (c .before .before .before .before .before .before .args .words)) (c .before .before .before .before .before .before .args .info .at) (c .before .before .before .before .before .before .args .info .width) (c .before .before .before .before .before .before .args .info .rows) s ≡ kept (now (c .before .before .before .before .before .before .args .words)) (now (c .before .before .before .before .before .before .args .log)) (c .before .before .before .before .before .before .args .t .0) (c .before .before .before .before .before .before .args .info) (c .before .before .before .before .before .before .args .info .rows) s
+rows-kept : (c : tie.After-gather-if) (s : Rows) → spared (take (c .gather-if .result * c .before .before .before .before .before .before .args .info .keys) (c .gather-if .last .1 .1 .1 .1 .0)) (keyTable (c .before .before .before .before .before .before .args .info .keys) (c .gather-if .result)) (now (c .before .before .before .before .before .before .args .words)) (c .before .before .before .before .before .before .args .info .at) (c .before .before .before .before .before .before .args .info .width) (c .before .before .before .before .before .before .args .info .rows) s ≡ kept (now (c .before .before .before .before .before .before .args .words)) (now (c .before .before .before .before .before .before .args .log)) (c .before .before .before .before .before .before .args .t .0) (c .before .before .before .before .before .before .args .info) (c .before .before .before .before .before .before .args .info .rows) s
 rows-kept c s =
     let a = c .before .before .before .before .before .before .args in
-    ap (λ (x : Keys). spared (x .words) (keyTable (a .info .keys) (x .count)) (now (a .words)) (a .info .at) (a .info .width) (a .info .rows) s) (c .gather-all .ensures .1)
+    ap (λ (x : Keys). spared (x .words) (keyTable (a .info .keys) (x .count)) (now (a .words)) (a .info .at) (a .info .width) (a .info .rows) s) (c .gather-if .ensures .1)
     ∙ spared-kept (now (a .words)) (now (a .log)) (a .t .0) (a .info) s (c .before .before .before .before .before .before .pre .0) (c .before .before .before .before .before .before .pre .1)
 
-gather-all-requires : tie.Need-gather-all-requires
-gather-all-requires c κs = let p = c .before .before .before .before .before .pre in (ap (λ (i : TableInfo). i .keys) (p .0), p .2)
+gather-if-requires : tie.Need-gather-if-requires
+gather-if-requires c κs = let p = c .before .before .before .before .before .pre in (ap (λ (i : TableInfo). i .keys) (p .0), p .2, p .5)
 
 mul-end : tie.Need-mul-end
 mul-end c = search needs
@@ -45,7 +45,7 @@ slice-aggregate-keep-indexed : tie.Need-slice-aggregate-keep-indexed
 slice-aggregate-keep-indexed c = sym (length-take-le _ _ (fits (c .before .before .before .before .before .before)))
 
 keep-indexed-requires : tie.Need-keep-indexed-requires
-keep-indexed-requires c κs = let p = c .before .before .before .before .before .before .before .before .before .before .before .before .before .pre in (p .1, stand (c .before .before .before .before .before .before .before), omega (arith, c .before .before .before .before .before .before .before .gather-all .ensures .0, p .3), p .1 .stands .keys, p .4)
+keep-indexed-requires c κs = let p = c .before .before .before .before .before .before .before .before .before .before .before .before .before .pre in (p .1, stand (c .before .before .before .before .before .before .before), omega (arith, c .before .before .before .before .before .before .before .gather-if .ensures .0, p .3), p .1 .stands .keys, p .4)
 
 same-length : tie.Need-same-length
 same-length c = search needs
@@ -81,7 +81,7 @@ pub keep-spec : {M : Type 1} → statement M
 keep-spec =
     tie.close
     (tie.spec
-    gather-all-requires
+    gather-if-requires
     mul-end
     serves-requires
     slice-reshare-prefix-keep-indexed
