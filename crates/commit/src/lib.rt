@@ -7,7 +7,9 @@ mod rows;
 
 pub use records::end_of;
 ghost use mathlib.Core.Path.{_≡_};
+ghost use mathlib.Core.Bool.{false, _||_};
 ghost use Prim.Native.Nat.{ℕ, _<_, _≤_};
+ghost use lib.Dec.{leb};
 ghost use lib.ListN.{length};
 ghost use Rattle.tables.specs.Tables.{infoOf, RowsStand};
 ghost use Rattle.commit.specs.Walk.{anyRemoval};
@@ -32,7 +34,7 @@ fn commit_table(
     mut done: Committed,
     removes: bool,
 ) -> Committed
-    requires { ⌜ (t < 16) × RowsStand (now words) (infoOf (now words) t) × (length (now log) ≤ length (now gone)) × (length (now log) ≤ 16384) × (done .used ≤ length (now rows)) × (length (now rows) ≤ 16384) × (removes ≡ anyRemoval (now words) (now log)) ⌝ }
+    requires { ⌜ (t < 16) × RowsStand (now words) (infoOf (now words) t) × (length (now log) ≤ length (now gone)) × (length (now log) ≤ 16384) × (done .used ≤ length (now rows)) × (length (now rows) ≤ 16384) × (removes ≡ false → anyRemoval (now words) (now log) ≡ false) ⌝ }
     ensures { λ r. ⌜ _≡_ {A = Left} (record { words = now (rows .exit); result = r }) (tableCommitted (now (words .entry)) (now (log .entry)) t (record { words = now (rows .entry); result = done })) ⌝ }
 {
     let id = TableId(t as u32);
@@ -51,6 +53,16 @@ fn commit_table(
     done
 }
 
+// Whether the log may have a removal. One table finds out by its own walk; several are spared theirs.
+fn may_remove(words: &[u32], tables: usize, log: &[u32]) -> bool
+    ensures { λ r. ⌜ r ≡ (leb tables 1 || anyRemoval (now (words .entry)) (now (log .entry))) ⌝ }
+{
+    if tables <= 1 {
+        return true;
+    }
+    records::any_removal(words, log)
+}
+
 // All tables of the book, with the words of the log's records. Where `over` says that a row had no room, the rows are not whole. `gone` is lent for the keys of removals.
 fn commit_all(
     words: &[u32],
@@ -62,7 +74,7 @@ fn commit_all(
     requires { ⌜ (tables ≤ 16) × (length (now log) ≤ 16384) × (length (now log) ≤ length (now gone)) × (length (now rows) ≤ 16384) × ((t : ℕ) → t < tables → RowsStand (now words) (infoOf (now words) t)) ⌝ }
     ensures { λ r. ⌜ _≡_ {A = Left} (record { words = now (rows .exit); result = r }) (committedRows (now (words .entry)) tables (now (log .entry)) (now (rows .entry))) ⌝ }
 {
-    let removes = records::any_removal(words, log);
+    let removes = may_remove(words, tables, log);
     let mut done = Committed {
         counts: [0u32; 16],
         used: 0,

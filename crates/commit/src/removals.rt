@@ -1,6 +1,6 @@
 // A table's old rows that no removal of the log names. The keys that are removed are gathered once, as the rows of a table of their own, and each old row's key is looked up there: by an index, where that is sooner made than the keys are looked at.
 ghost use mathlib.Core.Path.{_≡_};
-ghost use mathlib.Core.Bool.{true, _&&_};
+ghost use mathlib.Core.Bool.{true, false, _&&_};
 ghost use Prim.Native.Nat.{_+_, _*_, _/_, _≤_};
 ghost use lib.Dec.{leb};
 ghost use lib.ListN.{length, take};
@@ -49,7 +49,7 @@ fn gather_all(words: &[u32], log: &[u32], t: TableId, k: usize, gone: &mut [u32]
     n
 }
 
-// The same, where it is known whether there is a removal at all: most logs have none.
+// The same, where it may be known that there is no removal at all, as in most logs.
 fn gather_if(
     words: &[u32],
     log: &[u32],
@@ -58,7 +58,7 @@ fn gather_if(
     gone: &mut [u32],
     removes: bool,
 ) -> usize
-    requires { ⌜ (k ≡ infoOf (now words) (t .0) .keys) × (length (now log) ≤ length (now gone)) × (removes ≡ anyRemoval (now words) (now log)) ⌝ }
+    requires { ⌜ (k ≡ infoOf (now words) (t .0) .keys) × (length (now log) ≤ length (now gone)) × (removes ≡ false → anyRemoval (now words) (now log) ≡ false) ⌝ }
     ensures { λ r. ⌜ (r * k + 2 * r ≤ length (now (log .entry))) × (_≡_ {A = Keys} (record { words = take (r * k) (now (gone .exit)); count = r }) (removedKeys (now (words .entry)) (now (log .entry)) (t .0) k)) ⌝ }
 {
     if removes {
@@ -140,7 +140,7 @@ fn keep_indexed(
     keep_all(words, gone, &index, removed, info, rows, start)
 }
 
-// A table's old rows that no removal names. `gone` is lent for the removed keys: a table's rows, of which no word is a value. `removes` says whether the log has any.
+// A table's old rows that no removal names. `gone` is lent for the removed keys: a table's rows, of which no word is a value. Where `removes` is false the log has none.
 pub fn keep(
     words: &[u32],
     log: &[u32],
@@ -151,7 +151,7 @@ pub fn keep(
     start: Part,
     removes: bool,
 ) -> Part
-    requires { ⌜ (info ≡ infoOf (now words) (t .0)) × RowsStand (now words) info × (length (now log) ≤ length (now gone)) × (length (now log) ≤ 16384) × Stand (info .width) (record { words = now rows; part = start }) × (removes ≡ anyRemoval (now words) (now log)) ⌝ }
+    requires { ⌜ (info ≡ infoOf (now words) (t .0)) × RowsStand (now words) info × (length (now log) ≤ length (now gone)) × (length (now log) ≤ 16384) × Stand (info .width) (record { words = now rows; part = start }) × (removes ≡ false → anyRemoval (now words) (now log) ≡ false) ⌝ }
     ensures { λ r. ⌜ _≡_ {A = Rows} (record { words = now (rows .exit); part = r }) (kept (now (words .entry)) (now (log .entry)) (t .0) info (info .rows) (record { words = now (rows .entry); part = start })) ⌝ }
 {
     let n = gather_if(words, log, t, info.keys, gone, removes);

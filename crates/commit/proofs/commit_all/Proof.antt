@@ -1,12 +1,15 @@
 use Prim.Native.Nat.{_≤_, _-_}
-use mathlib.Core.Path.{_≡_, refl, ap, _∙_}
+use mathlib.Core.Path.{_≡_, refl, sym, ap, _∙_}
 use mathlib.Core.Bool.{false}
 use native.Mathlib.Omega.{arith}
 use denote.Ref.{now}
+use lib.Dec.{leb}
 use lib.ListN.{length, replicate}
 use Rattle.model.specs.Basics.{iter}
 use Rattle.model.specs.Laws.Iter.{iter-more}
+use Rattle.commit.specs.Walk.{anyRemoval}
 use Rattle.commit.specs.Commit.{Left, tableCommitted, committedRows}
+use Rattle.commit.specs.KeyLaws.{none-removed}
 use Rattle.commit.specs.TableLaws.{table-fits}
 use borrow.Author.Needs.{needs}
 use Rattle.commit.proofs.commit_all.Statement.{statement}
@@ -20,8 +23,8 @@ Inv-loop words tables log gone₀ rows₀ removes done₀ t₀ gone rows done t 
 abbrev μ-loop : tie.MeasureT-loop
 μ-loop words tables log gone₀ rows₀ removes done₀ t₀ gone rows done t = tables - t
 
-any-removal-requires : tie.Need-any-removal-requires Inv-loop μ-loop
-any-removal-requires c κs = search needs
+may-remove-requires : tie.Need-may-remove-requires Inv-loop μ-loop
+may-remove-requires c κs = search needs
 
 loop-holds : tie.Need-loop-holds Inv-loop μ-loop
 loop-holds c = (search needs, search needs, refl, omega arith, refl)
@@ -29,8 +32,9 @@ loop-holds c = (search needs, search needs, refl, omega arith, refl)
 commit-table-requires : tie.Need-commit-table-requires Inv-loop μ-loop
 commit-table-requires c κs =
     let l = c .before .before .before .loop in
+    let a = c .before .before .before .before .before .before .before .before .before .args in
     let pre = c .before .before .before .before .before .before .before .before .before .pre in
-    (omega arith, pre .4 (l .t) (c .before .before .loop-test .taken), omega (arith, l .inv .1, pre .2), pre .1, omega (arith, l .inv .2, l .inv .3), omega (arith, pre .3, l .inv .2), c .before .before .before .before .any-removal .ensures)
+    (omega arith, pre .4 (l .t) (c .before .before .loop-test .taken), omega (arith, l .inv .1, pre .2), pre .1, omega (arith, l .inv .2, l .inv .3), omega (arith, pre .3, l .inv .2), λ e. none-removed (leb (a .tables) 1) (anyRemoval (now (a .words)) (now (a .log))) (sym (c .before .before .before .before .may-remove .ensures) ∙ e))
 
 add-t : tie.Need-add-t Inv-loop μ-loop
 add-t c = search needs
@@ -70,7 +74,7 @@ commit-all-spec =
     (tie.spec
     Inv-loop
     μ-loop
-    any-removal-requires
+    may-remove-requires
     loop-holds
     commit-table-requires
     add-t

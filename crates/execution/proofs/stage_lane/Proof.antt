@@ -1,6 +1,5 @@
-use mathlib.Core.Path.{sym, ap}
+use mathlib.Core.Path.{ap}
 use native.Mathlib.Omega.{arith}
-use denote.Ref.{now}
 use Rattle.args.specs.declared.Args.{Args}
 use Rattle.bindings.specs.Columns.{fetched}
 use Rattle.execution.specs.Execution.{Logged, changing, stagedLane}

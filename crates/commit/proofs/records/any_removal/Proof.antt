@@ -1,6 +1,6 @@
 use Prim.Native.Nat.{ℕ, _-_}
-use mathlib.Core.Path.{_≡_, ap, _∙_}
-use mathlib.Core.Bool.{Bool, false, _||_}
+use mathlib.Core.Path.{_≡_, ap}
+use mathlib.Core.Bool.{false, _||_}
 use native.Mathlib.Omega.{arith}
 use lib.Dec.{eqb}
 use lib.ListN.{length}

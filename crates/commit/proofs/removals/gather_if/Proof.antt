@@ -1,4 +1,4 @@
-use mathlib.Core.Path.{_≡_, sym, _∙_}
+use mathlib.Core.Path.{_≡_}
 use native.Mathlib.Omega.{arith}
 use Prim.Native.Nat.{_*_}
 use denote.Ref.{now}
@@ -20,7 +20,7 @@ returns-2 : tie.Need-returns-2
 returns-2 c =
     let a = c .before .before .before .before .args in
     let z : 0 * a .k ≡ 0 = omega arith in
-    rw z (omega arith, none-gathered (now (a .words)) (now (a .log)) (a .t .0) (a .k) (sym (c .before .before .before .before .pre .2) ∙ c .if1 .left))
+    rw z (omega arith, none-gathered (now (a .words)) (now (a .log)) (a .t .0) (a .k) (c .before .before .before .before .pre .2 (c .if1 .left)))
 
 pub gather-if-spec : {M : Type 1} → statement M
 gather-if-spec = tie.close (tie.spec gather-all-requires same-length returns returns-2)

@@ -1,10 +1,8 @@
-use Prim.Native.Nat.{ℕ, _+_, _≤_}
+use Prim.Native.Nat.{ℕ}
 use mathlib.Core.Path.{sym, ap, _∙_, subst}
 use mathlib.Core.Logic.{inl}
-use mathlib.Core.List.{List}
 use native.Mathlib.Omega.{arith}
 use denote.Ref.{now}
-use lib.ListN.{length, getD}
 use Rattle.model.specs.Laws.Logic.{either}
 use Rattle.hash_index.specs.Index.{homeIn, added, Tails}
 use Rattle.hash_index.specs.IndexLaws.{indexed-tails}
