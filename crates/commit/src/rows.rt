@@ -9,7 +9,7 @@ use crate::merge;
 use tables::Found;
 use tables::TableInfo;
 
-// How many rows a table has, how many words are used up to their end, and the word at which they begin; or a row had no room. The last two fill half a word of the machine: were it one byte, each copy of a Part would wait for the one before it.
+// How many rows a table has, how many words are used up to their end, and the word at which they begin; or a row had no room. `from` is a u32 so that three bytes of padding follow `over`: seven are copied in two halves that overlap, and each copy would wait for the one before it.
 pub struct Part {
     pub count: usize,
     pub used: usize,

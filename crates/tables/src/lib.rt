@@ -52,6 +52,7 @@ fn body_of(words: &[u32], t: ids::TableId) -> usize
     words::size_at(words, 2 + 3 * words::size(t.0))
 }
 
+// The same as `info_at`, of the table with a number.
 pub fn info_of(words: &[u32], t: ids::TableId) -> TableInfo
     ensures { λ r. ⌜ r ≡ infoOf (now (words .entry)) (t .0) ⌝ }
 {
