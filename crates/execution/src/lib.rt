@@ -3,15 +3,13 @@ use counter::Counters;
 use ids::Lane;
 use ids::TableId;
 use instr::Entries;
-use lanes::Test;
 use log::Appended;
 use mask::Mask;
 ghost use mathlib.Core.Path.{_≡_};
-ghost use mathlib.Core.Bool.{_&&_};
 ghost use Prim.Native.Nat.{_≤_};
 ghost use lib.ListN.{length};
 ghost use Rattle.instr.specs.Stands.{Short};
-ghost use Rattle.lanes.specs.Lanes.{listed, holds, TestFits, kept};
+ghost use Rattle.lanes.specs.Lanes.{listed};
 ghost use Rattle.execution.specs.Execution.{isGoing, stopped, Logged, staged, stagedLane, stagedLanes};
 
 // A run goes on; or a counter would have passed its limit (refusal 13), or a record the end of the log (refusal 12).
@@ -29,12 +27,11 @@ pub struct ExecutionState {
     pub stop: Stop,
 }
 
-// Which record a lane stages that passes a test: an insert (kind 0) or a removal (kind 1) of what a list of entries stands for.
+// Which record a lane stages: an insert (kind 0) or a removal (kind 1) of what a list of entries stands for.
 pub struct Staging {
     pub kind: u32,
     pub table: TableId,
     pub vals: Entries,
-    pub test: Test,
 }
 
 impl ExecutionState {
@@ -95,25 +92,21 @@ fn stage_lane(
     s: ExecutionState,
     log: &mut [u32],
 ) -> ExecutionState
-    requires { ⌜ Short (what .vals) × TestFits (what .test) × (s .used ≤ length (now log)) ⌝ }
-    ensures is { λ r. ⌜ _≡_ {A = Logged} (record { state = r; log = now (log .exit) }) (stagedLane (what .kind) (what .table .0) (listed (now (words .entry)) (now (bindings .entry)) (lane .0) (what .vals)) (live && holds (now (words .entry)) (now (bindings .entry)) (what .test) (lane .0)) (record { state = s; log = now (log .entry) })) ⌝ }
+    requires { ⌜ Short (what .vals) × (s .used ≤ length (now log)) ⌝ }
+    ensures is { λ r. ⌜ _≡_ {A = Logged} (record { state = r; log = now (log .exit) }) (stagedLane (what .kind) (what .table .0) (listed (now (words .entry)) (now (bindings .entry)) (lane .0) (what .vals)) live (record { state = s; log = now (log .entry) })) ⌝ }
     ensures fits { λ r. ⌜ r .used ≤ length (now (log .entry)) ⌝ }
 {
-    if !(live & s.going()) {
-        return s;
+    if live & s.going() {
+        let row = lanes::fetch(words, bindings, what.vals, lane);
+        let vals = row.vals;
+        let mut t = stage(s, what.kind, what.table, &vals, row.count, log);
+        t.changed = true;
+        return t;
     }
-    let test = what.test;
-    if !lanes::passes(words, bindings, test, lane) {
-        return s;
-    }
-    let row = lanes::fetch(words, bindings, what.vals, lane);
-    let vals = row.vals;
-    let mut t = stage(s, what.kind, what.table, &vals, row.count, log);
-    t.changed = true;
-    t
+    s
 }
 
-// Each lane of the mask that passes the test stages a record, ascending, until the log is full.
+// Each lane of the mask stages a record, ascending, until the log is full.
 pub fn stage_lanes(
     words: &[u32],
     bindings: &[u32],
@@ -122,8 +115,8 @@ pub fn stage_lanes(
     start: ExecutionState,
     log: &mut [u32],
 ) -> ExecutionState
-    requires { ⌜ Short (what .vals) × TestFits (what .test) × (start .used ≤ length (now log)) ⌝ }
-    ensures is { λ r. ⌜ _≡_ {A = Logged} (record { state = r; log = now (log .exit) }) (stagedLanes (what .kind) (what .table .0) (λ i. listed (now (words .entry)) (now (bindings .entry)) i (what .vals)) (kept (holds (now (words .entry)) (now (bindings .entry)) (what .test)) (mask .live)) (record { state = start; log = now (log .entry) })) ⌝ }
+    requires { ⌜ Short (what .vals) × (start .used ≤ length (now log)) ⌝ }
+    ensures is { λ r. ⌜ _≡_ {A = Logged} (record { state = r; log = now (log .exit) }) (stagedLanes (what .kind) (what .table .0) (λ i. listed (now (words .entry)) (now (bindings .entry)) i (what .vals)) (mask .live) (record { state = start; log = now (log .entry) })) ⌝ }
     ensures fits { λ r. ⌜ r .used ≤ length (now (log .entry)) ⌝ }
 {
     let n = mask.end();

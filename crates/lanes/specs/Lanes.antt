@@ -23,7 +23,7 @@ use Rattle.hash_index.specs.Index.{IndexAmong}
 use Rattle.lanes.specs.declared.Ask.{Ask}
 use Rattle.lanes.specs.declared.Ask.the-variants.{Lookup, External, Var, Const}
 use Rattle.lanes.specs.declared.Test.{Test}
-use Rattle.lanes.specs.declared.Test.the-variants.{Always, Eq, Ne, AnyNe}
+use Rattle.lanes.specs.declared.Test.the-variants.{Eq, Ne, AnyNe}
 
 -- a row that was found begins in the words
 abbrev pub Begins : List ℕ → Found → Type 0
@@ -48,7 +48,6 @@ module _ (w m : List ℕ) where
 
   -- whether lane i passes
   unfoldable pub holds : Test → ℕ → Bool
-  holds Always i = true
   holds (Eq l r) i = eqb (wordOf m i (entryOf l)) (wordOf m i (entryOf r))
   holds (Ne l r) i = not (eqb (wordOf m i (entryOf l)) (wordOf m i (entryOf r)))
   holds (AnyNe ops divider) i = anyNe (take divider (asList (listed i ops))) (drop divider (asList (listed i ops)))
@@ -73,7 +72,6 @@ IndexFor w (Var v) index = Unit {0}
 IndexFor w (Const x) index = Unit {0}
 
 abbrev pub TestFits : Test → Type 0
-TestFits Always = Unit {0}
 TestFits (Eq l r) = Unit {0}
 TestFits (Ne l r) = Unit {0}
 TestFits (AnyNe ops divider) = Short ops

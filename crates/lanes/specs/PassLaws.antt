@@ -7,13 +7,10 @@ use native.Mathlib.Omega.{arith}
 use lib.ListN.{length, getD, set}
 use lib.Seq.{set-getD}
 use Rattle.model.specs.Basics.{iter, tab}
-use Rattle.model.specs.Laws.Iter.{iter-rest, iter-agree}
-use Rattle.model.specs.Laws.Lists.{getD-tab}
+use Rattle.model.specs.Laws.Iter.{iter-rest}
 use Rattle.words.specs.Filled.{filled, filled-turn, filled-rest, getD-filled}
 use Rattle.mask.specs.Masks.{firstLanes, end}
 use Rattle.mask.specs.MaskLaws.{none-first, end-le, end-past}
-use Rattle.lanes.specs.declared.Test.the-variants.{Always}
-use Rattle.lanes.specs.Lanes.{holds, kept}
 
 module _ (live : List Bool) (whole : length live ≡ 256) where
   within : end live ≤ 256
@@ -30,25 +27,6 @@ module _ (live : List Bool) (whole : length live ≡ 256) where
   -- a state that goes through a turn for each lane, which leaves it where the lane is not live
   pub live-turns : {A : Type 0} (f : ℕ → A → A) (i : ℕ) (s now : A) → now ≡ iter f i s → i ≡ end live → ((k : ℕ) → getD live k false ≡ false → f k now ≡ now) → now ≡ iter f 256 s
   live-turns f i s now e h dead = iter-rest f i 256 s now e (omega (arith, within)) (λ k p. dead k (end-past live k (omega arith)))
-
--- ## Lanes that pass a test
-
-pub kept-at : (test : ℕ → Bool) (live : List Bool) (k : ℕ) → k < 256 → getD (kept test live) k false ≡ getD live k false && test k
-unfolding kept
-kept-at test live k h = getD-tab (λ i. getD live i false && test i) 256 k false h
-
--- turns that go by the lanes that pass
-pub kept-turns : {A : Type 0} (test : ℕ → Bool) (live : List Bool) (f : Bool → ℕ → A → A) (s : A) → iter (λ k. f (getD live k false && test k) k) 256 s ≡ iter (λ k. f (getD (kept test live) k false) k) 256 s
-kept-turns test live f s = iter-agree (λ k. f (getD live k false && test k) k) (λ k. f (getD (kept test live) k false) k) 256 s (λ k a h. ap (λ (b : Bool). f b k a) (sym (kept-at test live k h)))
-
--- every lane passes where there is nothing to pass
-pub always-turns : {A : Type 0} (w m : List ℕ) (live : List Bool) (f : Bool → ℕ → A → A) (s : A) → iter (λ k. f (getD (kept (holds w m Always) live) k false) k) 256 s ≡ iter (λ k. f (getD live k false) k) 256 s
-unfolding holds
-always-turns w m live f s = iter-agree (λ k. f (getD (kept (holds w m Always) live) k false) k) (λ k. f (getD live k false) k) 256 s (λ k a h. ap (λ (b : Bool). f b k a) (kept-at (holds w m Always) live k h ∙ same (getD live k false)))
-  where
-    same : (b : Bool) → b && true ≡ b
-    same true = refl
-    same false = refl
 
 -- ## Lanes that a test drops
 

@@ -39,9 +39,8 @@ pub enum Ask {
     Const(u32),
 }
 
-// What a lane has to pass: nothing; or two entries are equal, or differ, or some pair of a list's two sides differs.
+// What a lane has to pass: two entries are equal, or differ, or some pair of a list's two sides differs.
 pub enum Test {
-    Always,
     Eq(QueryEntry, QueryEntry),
     Ne(QueryEntry, QueryEntry),
     AnyNe { ops: Entries, divider: usize },
@@ -195,12 +194,11 @@ fn any_ne(ops: Args, divider: usize) -> bool
 }
 
 // Whether a lane passes.
-pub fn passes(words: &[u32], bindings: &[u32], test: Test, lane: Lane) -> bool
+fn passes(words: &[u32], bindings: &[u32], test: Test, lane: Lane) -> bool
     requires { ⌜ TestFits test ⌝ }
     ensures { λ r. ⌜ r ≡ holds (now (words .entry)) (now (bindings .entry)) test (lane .0) ⌝ }
 {
     match test {
-        Test::Always => true,
         Test::Eq(l, r) => value(bindings, l, lane) == value(bindings, r, lane),
         Test::Ne(l, r) => value(bindings, l, lane) != value(bindings, r, lane),
         Test::AnyNe { ops, divider } => any_ne(fetch(words, bindings, ops, lane), divider),

@@ -1,10 +1,9 @@
-use mathlib.Core.Path.{ap, _∙_}
+use mathlib.Core.Path.{ap}
 use denote.Ref.{now}
 use Rattle.model.specs.Book.Contents.{tableCount}
 use Rattle.hash_index.specs.BookLaws.{book-has}
 use Rattle.lanes.specs.LaneLaws.{entry-fits}
 use Rattle.execution.specs.Execution.{Logged}
-use Rattle.execution.specs.ExecutionLaws.{always-stage}
 use Rattle.action.specs.Act.{Lanes, withLog, acted}
 use Rattle.action.specs.ActLaws.{table-stands}
 use borrow.Author.Needs.{needs}
@@ -70,16 +69,19 @@ stage-lanes-requires : tie.Need-stage-lanes-requires
 stage-lanes-requires c κs =
     let p = c .before .before .before .before .before .before .before .before .before .before .pre in
     let s = rw (c .before .before .i5 .given .1) at (p .2) in
-    (s .1, tt, p .3 .used)
+    (s .1, p .3 .used)
 
 enum-known-i-6 : tie.Need-enum-known-i-6
 enum-known-i-6 c = search needs
 
+retain-requires : tie.Need-retain-requires
+retain-requires c κs = search needs
+
 stage-lanes-requires-2 : tie.Need-stage-lanes-requires-2
 stage-lanes-requires-2 c κs =
-    let p = c .before .before .before .before .before .before .before .before .before .before .pre in
-    let s = rw (c .before .before .i6 .given .1) at (p .2) in
-    (s .1, tt, p .3 .used)
+    let p = c .before .before .before .before .before .before .before .before .before .before .before .pre in
+    let s = rw (c .before .before .before .i6 .given .1) at (p .2) in
+    (s .1, p .3 .used)
 
 enum-known-i-7 : tie.Need-enum-known-i-7
 enum-known-i-7 c = search needs
@@ -88,7 +90,7 @@ stage-lanes-requires-3 : tie.Need-stage-lanes-requires-3
 stage-lanes-requires-3 c κs =
     let p = c .before .before .before .before .before .before .before .before .before .before .pre in
     let s = rw (c .before .before .i7 .given .1) at (p .2) in
-    (s .1, tt, p .3 .used)
+    (s .1, p .3 .used)
 
 enum-known-i-8 : tie.Need-enum-known-i-8
 enum-known-i-8 c = search needs
@@ -111,20 +113,20 @@ fill-or-else-requires-3 c κs =
 enum-known-i-10 : tie.Need-enum-known-i-10
 enum-known-i-10 c = search needs
 
-retain-requires : tie.Need-retain-requires
-retain-requires c κs = search needs
+retain-requires-2 : tie.Need-retain-requires-2
+retain-requires-2 c κs = search needs
 
 enum-known-i-11 : tie.Need-enum-known-i-11
 enum-known-i-11 c = search needs
 
-retain-requires-2 : tie.Need-retain-requires-2
-retain-requires-2 c κs = search needs
+retain-requires-3 : tie.Need-retain-requires-3
+retain-requires-3 c κs = search needs
 
 enum-known-i-12 : tie.Need-enum-known-i-12
 enum-known-i-12 c = search needs
 
-retain-requires-3 : tie.Need-retain-requires-3
-retain-requires-3 c κs = rw (c .before .i12 .given .1) at (c .before .before .before .before .before .before .before .before .before .pre .2)
+retain-requires-4 : tie.Need-retain-requires-4
+retain-requires-4 c κs = rw (c .before .i12 .given .1) at (c .before .before .before .before .before .before .before .before .before .pre .2)
 
 enum-known-i-13 : tie.Need-enum-known-i-13
 enum-known-i-13 c = search needs
@@ -178,7 +180,7 @@ returns-5 c =
     let a = c .before .before .before .before .before .before .before .before .before .before .before .before .before .args in
     let e = c .before .before .stage-lanes .ensures in
     let l : Lanes = record { live = a .mask .live; state = a .state; log = now (a .log); index = now (a .index); out = now (a .out) } in
-    (rw (c .before .before .before .before .before .i5 .given .1) (ap (λ (g : Logged). withLog g l) (e .0 ∙ always-stage _ _ _ _ _ _ _)), e .1)
+    (rw (c .before .before .before .before .before .i5 .given .1) (ap (λ (g : Logged). withLog g l) (e .0)), e .1)
 
 same-length-8 : tie.Need-same-length-8
 same-length-8 c = search needs
@@ -186,10 +188,10 @@ same-length-8 c = search needs
 returns-6 : tie.Need-returns-6
 unfolding acted
 returns-6 c =
-    let a = c .before .before .before .before .before .before .before .before .before .before .before .before .before .args in
+    let a = c .before .before .before .before .before .before .before .before .before .before .before .before .before .before .args in
     let e = c .before .before .stage-lanes2 .ensures in
     let l : Lanes = record { live = a .mask .live; state = a .state; log = now (a .log); index = now (a .index); out = now (a .out) } in
-    (rw (c .before .before .before .before .before .i6 .given .1) (ap (λ (g : Logged). withLog g l) (e .0)), e .1)
+    (rw (c .before .before .before .before .before .before .i6 .given .1, ← c .before .before .before .before .retain .ensures) (ap (λ (g : Logged). withLog g l) (e .0)), e .1)
 
 same-length-9 : tie.Need-same-length-9
 same-length-9 c = search needs
@@ -200,7 +202,7 @@ returns-7 c =
     let a = c .before .before .before .before .before .before .before .before .before .before .before .before .before .args in
     let e = c .before .before .stage-lanes3 .ensures in
     let l : Lanes = record { live = a .mask .live; state = a .state; log = now (a .log); index = now (a .index); out = now (a .out) } in
-    (rw (c .before .before .before .before .before .i7 .given .1) (ap (λ (g : Logged). withLog g l) (e .0 ∙ always-stage _ _ _ _ _ _ _)), e .1)
+    (rw (c .before .before .before .before .before .i7 .given .1) (ap (λ (g : Logged). withLog g l) (e .0)), e .1)
 
 same-length-10 : tie.Need-same-length-10
 same-length-10 c = search needs
@@ -218,15 +220,15 @@ returns-9 c = let e = c .before .before .fill-or-else3 .ensures in (rw (c .befor
 
 returns-10 : tie.Need-returns-10
 unfolding acted
-returns-10 c = (rw (c .before .before .i10 .given .1, c .retain .ensures), c .before .before .before .before .before .before .before .before .before .before .pre .3 .used)
+returns-10 c = (rw (c .before .before .i10 .given .1, c .retain2 .ensures), c .before .before .before .before .before .before .before .before .before .before .pre .3 .used)
 
 returns-11 : tie.Need-returns-11
 unfolding acted
-returns-11 c = (rw (c .before .before .i11 .given .1, c .retain2 .ensures), c .before .before .before .before .before .before .before .before .before .before .pre .3 .used)
+returns-11 c = (rw (c .before .before .i11 .given .1, c .retain3 .ensures), c .before .before .before .before .before .before .before .before .before .before .pre .3 .used)
 
 returns-12 : tie.Need-returns-12
 unfolding acted
-returns-12 c = (rw (c .before .before .i12 .given .1, c .retain3 .ensures), c .before .before .before .before .before .before .before .before .before .before .pre .3 .used)
+returns-12 c = (rw (c .before .before .i12 .given .1, c .retain4 .ensures), c .before .before .before .before .before .before .before .before .before .before .pre .3 .used)
 
 same-length-12 : tie.Need-same-length-12
 same-length-12 c = search needs
@@ -254,6 +256,7 @@ act-spec =
     enum-known-i-5
     stage-lanes-requires
     enum-known-i-6
+    retain-requires
     stage-lanes-requires-2
     enum-known-i-7
     stage-lanes-requires-3
@@ -262,11 +265,11 @@ act-spec =
     enum-known-i-9
     fill-or-else-requires-3
     enum-known-i-10
-    retain-requires
-    enum-known-i-11
     retain-requires-2
-    enum-known-i-12
+    enum-known-i-11
     retain-requires-3
+    enum-known-i-12
+    retain-requires-4
     enum-known-i-13
     new-requires
     read-counter-requires

@@ -1,13 +1,12 @@
 use Prim.Native.Nat.{_-_, _≤_}
 use mathlib.Core.Path.{_≡_, refl, _∙_}
-use mathlib.Core.Bool.{false, _&&_}
+use mathlib.Core.Bool.{false}
 use native.Mathlib.Omega.{arith}
-use denote.Ref.{now}
 use lib.ListN.{length, getD}
 use Rattle.model.specs.Basics.{iter}
 use Rattle.model.specs.Laws.Iter.{iter-more}
-use Rattle.lanes.specs.Lanes.{listed, holds}
-use Rattle.lanes.specs.PassLaws.{live-turns, kept-turns}
+use Rattle.lanes.specs.Lanes.{listed}
+use Rattle.lanes.specs.PassLaws.{live-turns}
 use Rattle.execution.specs.Execution.{Logged, stagedLane, stagedLanes}
 use borrow.Author.Needs.{needs}
 use Rattle.execution.proofs.stage_lanes.Statement.{statement}
@@ -18,7 +17,7 @@ Inv-loop words bindings what log₀ mask n s₀ i₀ log s i =
     (i ≤ n)
     × (length log ≡ length log₀)
     × (s .used ≤ length log₀)
-    × (_≡_ {A = Logged} (record { state = s; log = log }) (iter (λ k. stagedLane (what .kind) (what .table .0) (listed words bindings k (what .vals)) (getD (mask .live) k false && holds words bindings (what .test) k)) i (record { state = s₀; log = log₀ })))
+    × (_≡_ {A = Logged} (record { state = s; log = log }) (iter (λ k. stagedLane (what .kind) (what .table .0) (listed words bindings k (what .vals)) (getD (mask .live) k false)) i (record { state = s₀; log = log₀ })))
 
 abbrev μ-loop : tie.MeasureT-loop
 μ-loop words bindings what log₀ mask n s₀ i₀ log s i = n - i
@@ -54,15 +53,8 @@ returns : tie.Need-returns Inv-loop μ-loop
 unfolding stagedLanes stagedLane
 returns c =
     let l = c .before .loop in
-    let a = c .before .before .before .before .before .before .args in
-    let m = a .t4 .live in
-    let w = now (a .words) in
-    let b = now (a .bindings) in
-    let t = a .what in (
-      live-turns m (search needs) _ (l .i) _ _ (l .inv .3) (omega (arith, c .before .before .end .ensures .0)) (λ k q. rw q)
-          ∙ kept-turns (holds w b (t .test)) m (λ live k. stagedLane (t .kind) (t .table .0) (listed w b k (t .vals)) live) (record { state = a .start; log = now (a .log) }),
-      l .inv .2,
-    )
+    let m = c .before .before .before .before .before .before .args .t4 .live in
+    (live-turns m (search needs) _ (l .i) _ _ (l .inv .3) (omega (arith, c .before .before .end .ensures .0)) (λ k q. rw q), l .inv .2)
 
 pub stage-lanes-spec : {M : Type 1} → statement M
 stage-lanes-spec =

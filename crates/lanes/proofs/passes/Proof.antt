@@ -4,9 +4,6 @@ use borrow.Author.Needs.{needs}
 use Rattle.lanes.proofs.passes.Statement.{statement}
 use Rattle.lanes.proofs.passes.Tie as tie
 
-enum-told : tie.Need-enum-told
-enum-told c = search needs
-
 enum-known-test : tie.Need-enum-known-test
 enum-known-test c = search needs
 
@@ -37,25 +34,20 @@ any-ne-requires c κs = rw (c .fetch .ensures) ((rw (c .before .before .test3 .g
 
 returns : tie.Need-returns
 unfolding holds
-returns c = rw (c .enum-told .given .1)
+returns c = rw (c .before .before .before .test .given .1, ← c .before .value .ensures, ← c .value2 .ensures)
 
 returns-2 : tie.Need-returns-2
 unfolding holds
-returns-2 c = rw (c .before .before .before .test .given .1, ← c .before .value .ensures, ← c .value2 .ensures)
+returns-2 c = rw (c .before .before .before .test2 .given .1, ← c .before .value3 .ensures, ← c .value4 .ensures)
 
 returns-3 : tie.Need-returns-3
 unfolding holds
-returns-3 c = rw (c .before .before .before .test2 .given .1, ← c .before .value3 .ensures, ← c .value4 .ensures)
-
-returns-4 : tie.Need-returns-4
-unfolding holds
-returns-4 c = rw (c .before .before .before .test3 .given .1, ← c .before .fetch .ensures) (c .any-ne .ensures)
+returns-3 c = rw (c .before .before .before .test3 .given .1, ← c .before .fetch .ensures) (c .any-ne .ensures)
 
 pub passes-spec : {M : Type 1} → statement M
 passes-spec =
     tie.close
     (tie.spec
-    enum-told
     enum-known-test
     value-requires
     value-requires-2
@@ -67,5 +59,4 @@ passes-spec =
     any-ne-requires
     returns
     returns-2
-    returns-3
-    returns-4)
+    returns-3)
