@@ -83,9 +83,9 @@ module _ (w log : List ℕ) (t k : ℕ) (keys : k ≡ infoOf w t .keys) where
 
 -- ## None of them
 
-pub none-removed : (b removes : Bool) → b || removes ≡ false → removes ≡ false
-none-removed true removes e = absurd (let z : _≡_ {A = ℕ} 0 1 = cc in omega arith)
-none-removed false removes e = e
+pub or-right-false : (b removes : Bool) → b || removes ≡ false → removes ≡ false
+or-right-false true removes e = absurd (let z : _≡_ {A = ℕ} 0 1 = cc in omega arith)
+or-right-false false removes e = e
 
 -- where no record is a removal, no key is gathered
 pub none-gathered : (w log : List ℕ) (t k : ℕ) → anyRemoval w log ≡ false → record { words = []; count = 0 } ≡ removedKeys w log t k

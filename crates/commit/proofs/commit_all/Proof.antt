@@ -9,7 +9,7 @@ use Rattle.model.specs.Basics.{iter}
 use Rattle.model.specs.Laws.Iter.{iter-more}
 use Rattle.commit.specs.Walk.{anyRemoval}
 use Rattle.commit.specs.Commit.{Left, tableCommitted, committedRows}
-use Rattle.commit.specs.KeyLaws.{none-removed}
+use Rattle.commit.specs.KeyLaws.{or-right-false}
 use Rattle.commit.specs.TableLaws.{table-fits}
 use borrow.Author.Needs.{needs}
 use Rattle.commit.proofs.commit_all.Statement.{statement}
@@ -34,7 +34,7 @@ commit-table-requires c κs =
     let l = c .before .before .before .loop in
     let a = c .before .before .before .before .before .before .before .before .before .args in
     let pre = c .before .before .before .before .before .before .before .before .before .pre in
-    (omega arith, pre .4 (l .t) (c .before .before .loop-test .taken), omega (arith, l .inv .1, pre .2), pre .1, omega (arith, l .inv .2, l .inv .3), omega (arith, pre .3, l .inv .2), λ e. none-removed (leb (a .tables) 1) (anyRemoval (now (a .words)) (now (a .log))) (sym (c .before .before .before .before .may-remove .ensures) ∙ e))
+    (omega arith, pre .4 (l .t) (c .before .before .loop-test .taken), omega (arith, l .inv .1, pre .2), pre .1, omega (arith, l .inv .2, l .inv .3), omega (arith, pre .3, l .inv .2), λ e. or-right-false (leb (a .tables) 1) (anyRemoval (now (a .words)) (now (a .log))) (sym (c .before .before .before .before .may-remove .ensures) ∙ e))
 
 add-t : tie.Need-add-t Inv-loop μ-loop
 add-t c = search needs
