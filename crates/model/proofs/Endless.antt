@@ -10,15 +10,12 @@ use lib.Dec.{leb}
 use lib.ListN.{length, getElem?}
 use Rattle.model.specs.Basics.{found}
 use Rattle.model.specs.Book.Syntax.{Counter, Step}
-use Rattle.model.specs.Machine.State.{State, Record, going, spent, full, isGoing, Env, logWords}
+use Rattle.model.specs.Machine.State.{State, Record, going, full, isGoing, Env, logWords}
 use Rattle.model.specs.Machine.Steps.{fresh, step, run}
-use Rattle.model.specs.Book.Read.{counters, steps}
-use Rattle.model.specs.Outcome.{envOf}
-use Rattle.model.specs.Claims.Refusals.{after, Spends, SpentExact}
-use Rattle.model.specs.Laws.Logic.{at-length, at-below, when-ind, either, le-cases}
+use Rattle.model.specs.Laws.Logic.{at-length, when-ind, either, le-cases}
 use Rattle.model.proofs.Idle.{goes?}
 use Rattle.model.proofs.Room.{withRoom, words-append, unanswered, Later}
-use Rattle.model.proofs.Follows.{settingOf, step-goes}
+use Rattle.model.proofs.Follows.{setting, step-goes}
 use Rattle.model.specs.Laws.Turns.{when-T}
 
 -- the log without end, and the log of L words
@@ -48,11 +45,11 @@ module _ (E : Env) (counters : List Counter) (steps : List Step) where
   past-end k e = rw e (when-ind (λ x. x ≡ ran k) (isGoing (ran k .status)) (λ s. s) (ran k) (λ _. refl) refl)
 
   -- what a step leaves (the room beside it does not matter here)
-  stepped : (k : ℕ) (st : Step) → ran k .status ≡ going → getElem? steps k ≡ some st → Later (settingOf E 0 k st) 1 (ran k .log) (ran k .answers) (ran (suc k))
-  stepped k st g e = subst (Later (settingOf E 0 k st) 1 (ran k .log) (ran k .answers)) (sym (next k st g e)) (step-goes E 0 k st (ran k) g .later)
+  stepped : (k : ℕ) (st : Step) → ran k .status ≡ going → getElem? steps k ≡ some st → Later (setting E 0) 1 (ran k .log) (ran k .answers) (ran (suc k))
+  stepped k st g e = subst (Later (setting E 0) 1 (ran k .log) (ran k .answers)) (sym (next k st g e)) (step-goes E 0 k st (ran k) g .later)
 
   -- a step is run, or leaves the run as it is
-  next-ind : (P : State → Type 0) (k : ℕ) → P (ran k) → ((st : Step) → ran k .status ≡ going → getElem? steps k ≡ some st → P (ran (suc k))) → P (ran (suc k))
+  pub next-ind : (P : State → Type 0) (k : ℕ) → P (ran k) → ((st : Step) → ran k .status ≡ going → getElem? steps k ≡ some st → P (ran (suc k))) → P (ran (suc k))
   next-ind P k p h = either (λ g. go g (getElem? steps k) refl) (λ e. subst P (sym (idle k e)) p) (goes? (ran k .status))
     where
       go : ran k .status ≡ going → (o : Option Step) → getElem? steps k ≡ o → P (ran (suc k))
@@ -78,7 +75,7 @@ module _ (E : Env) (counters : List Counter) (steps : List Step) where
   went-on : (k : ℕ) → ran (suc k) .status ≡ going → ran k .status ≡ going
   went-on k g = either (λ e. e) (λ e. absurd (false≢true (sym e ∙ ap (λ s. isGoing (s .status)) (sym (idle k e)) ∙ ap isGoing g))) (goes? (ran k .status))
 
-  begun : ran zero ≡ fresh counters
+  pub begun : ran zero ≡ fresh counters
   unfolding run
   begun = refl
 
@@ -90,7 +87,7 @@ module _ (E : Env) (counters : List Counter) (steps : List Step) where
       l .counted ∙ rw g (omega (arith, answers-counted k (omega arith) (went-on k g)))
 
   -- the step that stops it has no answer
-  unanswered-step : (k : ℕ) → k < length steps → ran k .status ≡ going → isGoing (ran (suc k) .status) ≡ false → length (ran (suc k) .answers) ≡ k
+  pub unanswered-step : (k : ℕ) → k < length steps → ran k .status ≡ going → isGoing (ran (suc k) .status) ≡ false → length (ran (suc k) .answers) ≡ k
   unanswered-step k h g n =
       let st = at-length steps k h in
       let l = stepped k (st .0) g (st .1) in
@@ -122,21 +119,10 @@ module _ (E : Env) (counters : List Counter) (steps : List Step) where
           let p = ih (λ g. false≢true (sym e ∙ ap isGoing g)) in
           record { last = p .last; before = omega arith; went = p .went; count = ap (λ s. length (s .answers)) (idle k e) ∙ p .count; stays = idle k e ∙ p .stays }
 
-  -- ## A spent counter
-
-  pub spent-why : (k : ℕ) → ran k .status ≡ spent → (st : Step) × (getElem? steps (length (ran k .answers)) ≡ some st) × Spends (E .tables) (E .rules) (length (ran k .answers)) (ran k) st
-  spent-why zero q = let z : _≡_ {A = ℕ} 0 1 = cc (ap (λ s. s .status) begun) in absurd (omega arith)
-  spent-why (suc k) q = next-ind (λ s. s .status ≡ spent → (st : Step) × (getElem? steps (length (s .answers)) ≡ some st) × Spends (E .tables) (E .rules) (length (s .answers)) s st) k (spent-why k)
-      (λ st g e q. let n = unanswered-step k (at-below steps k e) g (ap isGoing q) in (st, rw n e, rw n (stepped k st g e .spends q))) q
-
   -- only a log with an end is ever full
   pub never-full : ((n : ℕ) → E .room n ≡ true) → (k : ℕ) → ran k .status ≢ full
   never-full room zero = λ q. let z : _≡_ {A = ℕ} 0 1 = cc (ap (λ s. s .status) begun) in omega arith
   never-full room (suc k) = next-ind (λ s. s .status ≢ full) k (never-full room k) (λ st g e q. let f = stepped k st g e .fills q in false≢true (sym (f .1) ∙ room (f .0)))
-
-pub spent-exact : SpentExact
-unfolding after
-spent-exact w = spent-why (envOf w (λ _. true)) (counters w) (steps w)
 
 -- ## Two machines
 

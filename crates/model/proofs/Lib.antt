@@ -28,5 +28,6 @@ mod TraceComplete
 mod TraceNotes
 mod TraceEnds
 mod TraceReads
+mod Spent
 mod TraceRows
 mod TraceClaims

@@ -7,14 +7,14 @@ use mathlib.Core.Bool.{Bool, true, false, _&&_, not, false≢true}
 use mathlib.Core.Option.{Option, none, some}
 use mathlib.Core.List.{List, [], _∷_, _++_, append-nil, append-assoc}
 use borrow.Author.Tests.{leb-true, leb-false}
-use lib.Dec.{eqb, leb}
+use lib.Dec.{leb}
 use lib.ListN.{length, getD, getElem?, take, drop}
 use Rattle.model.specs.Basics.{iter, when, found, only, first}
-use Rattle.model.specs.Book.Syntax.{QueryEntry, WriteVal, width}
+use Rattle.model.specs.Book.Syntax.{QueryEntry, WriteVal}
 use Rattle.model.specs.Machine.State.{State, Site, Record, Answer, Status, going, stuck, spent, full, isGoing, reads, took, asks, Bindings, Env, stop, note, give, lose, withCounters, logged, change, reply, need, ifRoom, logWords}
 use Rattle.model.specs.Machine.Values.{hold, valueOf, valuesOf, listOf, find, predictedRows, Built, isStuck, isSpent, built, build}
 use Rattle.model.specs.Machine.Steps.{isLive, isNone, lanes, missed, anyNe, readPair, takeColumn, takeDefault, assertAnyNe, tableOf, stageNew, rowStart, predictRow, lookup, invoke, serveMissed, stageList}
-use Rattle.model.specs.Laws.Logic.{and-split, none-some, only-yes, either}
+use Rattle.model.specs.Laws.Logic.{either}
 use Rattle.model.proofs.Idle.{goes?, Idle, missed-idle}
 
 -- with other room for the log
@@ -28,12 +28,6 @@ within L E = withRoom (λ n. E .room n && leb n L) E
 pub words-append : (a b : List Record) → logWords (a ++ b) ≡ logWords a + logWords b
 words-append [] b = omega arith
 words-append (r ∷ a) b = omega (arith, words-append a b)
-
-going≢spent : going ≢ spent
-going≢spent e = let z : _≡_ {A = ℕ} 0 1 = cc in omega arith
-
-stuck≢spent : stuck ≢ spent
-stuck≢spent e = let z : _≡_ {A = ℕ} 0 1 = cc in omega arith
 
 going≢full : going ≢ full
 going≢full e = let z : _≡_ {A = ℕ} 0 1 = cc in omega arith
@@ -63,15 +57,10 @@ answered-none stuck = refl
 answered-none spent = refl
 answered-none full = refl
 
-first-none : {A : Type 0} (xs : List A) → first xs ≡ none → xs ≡ []
-first-none [] e = refl
-first-none (x ∷ xs) e = absurd (none-some (sym e))
-
--- a machine, less room for its log than it has, and what is so where it ends spent
-pub record Setting : Type 1 where
+-- a machine, and less room for its log than it has
+pub record Setting : Type 0 where
   pub env : Env
   pub most : ℕ
-  pub Why : State → Type 0
 
 module _ (S : Setting) where
   abbrev pub less : Env
@@ -86,7 +75,6 @@ module _ (S : Setting) where
     pub more : List Record
     pub grew : s .log ≡ log ++ more
     pub counted : length (s .answers) ≡ answered n (s .status) + length past
-    pub spends : s .status ≡ spent → S .Why s
     pub fills : s .status ≡ full → Short
 
   -- s, with less room, beside u: the same, or the log of s was too short
@@ -110,20 +98,20 @@ module _ (S : Setting) where
   -- ## Combinators
 
   -- the same in both, and nothing logged
-  same : (n : ℕ) (x s : State) → s .log ≡ x .log → length (s .answers) ≡ answered n (s .status) + length (x .answers) → (s .status ≡ spent → S .Why s) → (s .status ≡ full → Short) → Both n (x .log) (x .answers) s s
-  same n x s e c w f = record { later = record { more = []; grew = e ∙ sym (append-nil (x .log)); counted = c; spends = w; fills = f }; follows = λ h. inl (refl, rw e h) }
+  same : (n : ℕ) (x s : State) → s .log ≡ x .log → length (s .answers) ≡ answered n (s .status) + length (x .answers) → (s .status ≡ full → Short) → Both n (x .log) (x .answers) s s
+  same n x s e c f = record { later = record { more = []; grew = e ∙ sym (append-nil (x .log)); counted = c; fills = f }; follows = λ h. inl (refl, rw e h) }
 
   pub stay : (s : State) → Goes 0 s s s
-  stay s g = same 0 s s refl (omega (arith, answered-none (s .status))) (λ e. absurd (going≢spent (sym g ∙ e))) (λ e. absurd (going≢full (sym g ∙ e)))
+  stay s g = same 0 s s refl (omega (arith, answered-none (s .status))) (λ e. absurd (going≢full (sym g ∙ e)))
 
-  halt : (n : ℕ) (o : Status) (s : State) → isGoing o ≡ false → (o ≡ spent → S .Why (stop o s)) → (o ≡ full → Short) → Goes n s (stop o s) (stop o s)
-  halt n o s e why fills g = same n s (stop o s) refl (omega (arith, unanswered n o e)) why fills
+  halt : (n : ℕ) (o : Status) (s : State) → isGoing o ≡ false → (o ≡ full → Short) → Goes n s (stop o s) (stop o s)
+  halt n o s e fills g = same n s (stop o s) refl (omega (arith, unanswered n o e)) fills
 
   pub reply-goes : (a : Answer) (s : State) → Goes 1 s (reply a s) (reply a s)
-  reply-goes a s g = same 1 s (reply a s) refl (rw g (omega arith)) (λ e. absurd (going≢spent (sym g ∙ e))) (λ e. absurd (going≢full (sym g ∙ e)))
+  reply-goes a s g = same 1 s (reply a s) refl (rw g (omega arith)) (λ e. absurd (going≢full (sym g ∙ e)))
 
   pub need-goes : {A : Type 0} (n : ℕ) (o : Option A) (s : State) (f g : A → State) → ((a : A) → o ≡ some a → Goes n s (f a) (g a)) → Goes n s (need o s f) (need o s g)
-  need-goes n none s f g h = halt n stuck s refl (λ e. absurd (stuck≢spent e)) (λ e. absurd (stuck≢full e))
+  need-goes n none s f g h = halt n stuck s refl (λ e. absurd (stuck≢full e))
   need-goes n (some a) s f g h = h a refl
 
   pub found-goes : {A : Type 0} (n : ℕ) (o : Option A) (s : State) (f f′ : A → State) (g g′ : Unit {0} → State)
@@ -141,7 +129,6 @@ module _ (S : Setting) where
     more = a .more ++ b .more;
     grew = b .grew ∙ ap (λ x. x ++ b .more) (a .grew) ∙ append-assoc log (a .more) (b .more);
     counted = omega (arith, a .counted, b .counted, answered-none (s .status));
-    spends = b .spends;
     fills = b .fills;
   }
 
@@ -155,7 +142,7 @@ module _ (S : Setting) where
         follows = λ l. either (λ p. rw (p .0) (h u r .follows (p .1))) (λ p. inr (ap (λ y. y .status) (i s (rw (p .0) refl)) ∙ p .0, omega (arith, p .1, grown n (u .log) (u .answers) (g u) (h u r .later)))) (c .follows l);
       }
       go c (inr r) = record {
-        later = rw (i′ u r) (record { more = c .later .more; grew = c .later .grew; counted = omega (arith, c .later .counted, unanswered n (u .status) r, answered-none (u .status)); spends = c .later .spends; fills = c .later .fills });
+        later = rw (i′ u r) (record { more = c .later .more; grew = c .later .grew; counted = omega (arith, c .later .counted, unanswered n (u .status) r, answered-none (u .status)); fills = c .later .fills });
         follows = λ l. either (λ p. inl (ap f (p .0) ∙ i u r ∙ sym (i′ u r), rw (i′ u r) (p .1))) (λ p. inr (ap (λ y. y .status) (i s (rw (p .0) refl)) ∙ p .0, rw (i′ u r) (p .1))) (c .follows l);
       }
 
@@ -169,11 +156,11 @@ module _ (S : Setting) where
   -- a record: it fits both logs, or the one with more room alone, or neither
   room-goes : (n m : ℕ) (c : Bool) → S .env .room m ≡ c → (r : Record) (s : State) (f g : State → State) → Goes n (logged r s) (f (logged r s)) (g (logged r s))
       → Goes n s (ifRoom (c && leb (logWords (s .log ++ (r ∷ []))) (S .most)) r s f) (ifRoom c r s g)
-  room-goes n m false z r s f g h e = halt n full s refl (λ q. absurd (full≢spent q)) (λ _. (m, z)) e
+  room-goes n m false z r s f g h e = halt n full s refl (λ _. (m, z)) e
   room-goes n m true z r s f g h e = go (h e) (leb (logWords (s .log ++ (r ∷ []))) (S .most)) refl
     where
       shorter : Later n (s .log ++ (r ∷ [])) (s .answers) (g (logged r s)) → Later n (s .log) (s .answers) (g (logged r s))
-      shorter l = record { more = r ∷ l .more; grew = l .grew ∙ append-assoc (s .log) (r ∷ []) (l .more); counted = l .counted; spends = l .spends; fills = l .fills }
+      shorter l = record { more = r ∷ l .more; grew = l .grew ∙ append-assoc (s .log) (r ∷ []) (l .more); counted = l .counted; fills = l .fills }
 
       go : Both n (s .log ++ (r ∷ [])) (s .answers) (f (logged r s)) (g (logged r s)) → (b : Bool) → leb (logWords (s .log ++ (r ∷ []))) (S .most) ≡ b
           → Both n (s .log) (s .answers) (ifRoom b r s f) (g (logged r s))
@@ -216,56 +203,43 @@ module _ (S : Setting) where
       let s₁ : State = change (note (reads o ws) s) in
       room-goes 0 (logWords (s .log ++ (r ∷ []))) (S .env .room (logWords (s .log ++ (r ∷ [])))) refl r s₁ (λ s′. s′) (λ s′. s′) (stay (logged r s₁)))
 
-  new-goes : (n : ℕ) (o : Site) (t : ℕ) (B : Built) (s : State) (f g : List ℕ → State → State) → (B ≡ isSpent → S .Why (stop spent s)) → ((r : List ℕ) (s′ : State) → Goes n s′ (f r s′) (g r s′))
+  new-goes : (n : ℕ) (o : Site) (t : ℕ) (B : Built) (s : State) (f g : List ℕ → State → State) → ((r : List ℕ) (s′ : State) → Goes n s′ (f r s′) (g r s′))
       → Goes n s (stageNew less o t B s f) (stageNew (S .env) o t B s g)
-  new-goes n o t isStuck s f g why h = halt n stuck s refl (λ q. absurd (stuck≢spent q)) (λ q. absurd (stuck≢full q))
-  new-goes n o t isSpent s f g why h = halt n spent s refl (λ _. why refl) (λ q. absurd (full≢spent (sym q)))
-  new-goes n o t (built r cs) s f g why h =
+  new-goes n o t isStuck s f g h = halt n stuck s refl (λ q. absurd (stuck≢full q))
+  new-goes n o t isSpent s f g h = halt n spent s refl (λ q. absurd (full≢spent (sym q)))
+  new-goes n o t (built r cs) s f g h =
       let e : Record = record { site = o; kind = 2; table = t; words = r } in
       let s₁ : State = note (reads o r) (withCounters cs s) in
       room-goes n (logWords (s .log ++ (e ∷ []))) (S .env .room (logWords (s .log ++ (e ∷ [])))) refl e s₁ (f r) (g r) (h r (logged e s₁))
 
-  -- where a row that is built comes to a spent counter
-  abbrev pub Comes : Site → Bindings → ℕ → List ℕ → List WriteVal → State → Type 0
-  Comes o b t key vs s = predictedRows (tableOf (S .env) t .keys) t key (s .log) ≡ [] → build b (o .lane) vs (built key (s .counters)) ≡ isSpent → S .Why (stop spent s)
-
   pub row-goes : (n : ℕ) (o : Site) (b : Bindings) (t : ℕ) (key : List ℕ) (vs : List WriteVal) (s : State) (f g : Bool → List ℕ → State → State)
-      → Comes o b t key vs s → ((new : Bool) (r : List ℕ) (s′ : State) → Goes n s′ (f new r s′) (g new r s′))
-      → Goes n s (predictRow less o b t key vs s f) (predictRow (S .env) o b t key vs s g)
+      → ((new : Bool) (r : List ℕ) (s′ : State) → Goes n s′ (f new r s′) (g new r s′)) → Goes n s (predictRow less o b t key vs s f) (predictRow (S .env) o b t key vs s g)
   unfolding predictRow
-  row-goes n o b t key vs s f g why h =
+  row-goes n o b t key vs s f g h =
       found-goes n (first (predictedRows (tableOf (S .env) t .keys) t key (s .log))) s _ _ _ _ (λ r _. h false r s)
-      (λ z. need-goes n (rowStart (S .env) t key vs (s .counters)) s _ _ (λ B e.
-      new-goes n o t (build b (o .lane) vs B) s (f true) (g true)
-      (λ q. why (first-none (predictedRows (tableOf (S .env) t .keys) t key (s .log)) z) (rw (only-yes (eqb (length key + length vs) (width (tableOf (S .env) t))) (built key (s .counters)) B e .1) q)) (h true)))
+      (λ _. need-goes n (rowStart (S .env) t key vs (s .counters)) s _ _ (λ B _. new-goes n o t (build b (o .lane) vs B) s (f true) (g true) (h true)))
 
-  pub serve-goes : (o : Site) (dst t : ℕ) (args : List QueryEntry) (vs : List WriteVal) (col : ℕ) (s : State)
-      → ((key : List ℕ) → listOf (hold dst (s .bindings)) (o .lane) (tableOf (S .env) t .keys) args ≡ some key → Comes o (hold dst (s .bindings)) t key vs (note (reads o key) s))
-      → Goes 0 s (serveMissed less o dst t args vs col s) (serveMissed (S .env) o dst t args vs col s)
+  pub serve-goes : (o : Site) (dst t : ℕ) (args : List QueryEntry) (vs : List WriteVal) (col : ℕ) → Keeps (serveMissed less o dst t args vs col) (serveMissed (S .env) o dst t args vs col)
   unfolding serveMissed
-  serve-goes o dst t args vs col s why = need-goes 0 (listOf (hold dst (s .bindings)) (o .lane) (tableOf (S .env) t .keys) args) s _ _ (λ key e.
-      row-goes 0 o (hold dst (s .bindings)) t key vs (note (reads o key) s) _ _ (why key e) (λ _ r s′. take-goes o col r (note (asks o t key r) s′)))
+  serve-goes o dst t args vs col s = need-goes 0 (listOf (hold dst (s .bindings)) (o .lane) (tableOf (S .env) t .keys) args) s _ _ (λ key _.
+      row-goes 0 o (hold dst (s .bindings)) t key vs (note (reads o key) s) _ _ (λ _ r s′. take-goes o col r (note (asks o t key r) s′)))
 
   -- ## Passes
 
-  abbrev isMissed : State → ℕ → Bool
-  isMissed s i = isLive s i && isNone (getD (s .out) i none)
+  -- what each lane's turn keeps
+  abbrev pub Turns : (ℕ → State → State) → (ℕ → State → State) → Type 0
+  Turns f g = (i : ℕ) → Keeps (f i) (g i)
 
-  -- what each live lane keeps
-  abbrev pub Lanes : (ℕ → State → State) → (ℕ → State → State) → Type 0
-  Lanes f g = (i : ℕ) (s : State) → getD (s .live) i false ≡ true → Goes 0 s (f i s) (g i s)
-
-  pub lanes-goes : (f g : ℕ → State → State) → Lanes f g → Keeps (lanes f) (lanes g)
+  pub lanes-goes : (f g : ℕ → State → State) → Turns f g → Keeps (lanes f) (lanes g)
   unfolding lanes
   lanes-goes f g h s = iter-goes (λ i s′. when (isLive s′ i) (f i) s′) (λ i s′. when (isLive s′ i) (g i) s′) (λ i s′ e. rw e) (λ i s′ e. rw e)
-      (λ i s′. when-goes (isLive s′ i) (f i) (g i) s′ (λ e. h i s′ (and-split (isGoing (s′ .status)) (getD (s′ .live) i false) e .1))) (length (s .live)) s
+      (λ i s′. when-goes (isLive s′ i) (f i) (g i) s′ (λ _. h i s′)) (length (s .live)) s
 
-  missed-goes : (f g : ℕ → State → State) → Lanes f g → Keeps (missed f) (missed g)
+  missed-goes : (f g : ℕ → State → State) → Turns f g → Keeps (missed f) (missed g)
   unfolding missed
-  missed-goes f g h s = iter-goes (λ i s′. when (isMissed s′ i) (f i) s′) (λ i s′. when (isMissed s′ i) (g i) s′) (λ i s′ e. rw e) (λ i s′ e. rw e)
-      (λ i s′. when-goes (isMissed s′ i) (f i) (g i) s′
-      (λ e. h i s′ (and-split (isGoing (s′ .status)) (getD (s′ .live) i false) (and-split (isLive s′ i) (isNone (getD (s′ .out) i none)) e .0) .1))) (length (s .live)) s
+  missed-goes f g h s = iter-goes (λ i s′. when (isLive s′ i && isNone (getD (s′ .out) i none)) (f i) s′) (λ i s′. when (isLive s′ i && isNone (getD (s′ .out) i none)) (g i) s′) (λ i s′ e. rw e) (λ i s′ e. rw e)
+      (λ i s′. when-goes (isLive s′ i && isNone (getD (s′ .out) i none)) (f i) (g i) s′ (λ _. h i s′)) (length (s .live)) s
 
   -- a pass, then the lanes that it missed
-  pub pass-goes : (f g f′ g′ : ℕ → State → State) → Lanes f g → Lanes f′ g′ → Keeps (λ s. missed f′ (lanes f s)) (λ s. missed g′ (lanes g s))
+  pub pass-goes : (f g f′ g′ : ℕ → State → State) → Turns f g → Turns f′ g′ → Keeps (λ s. missed f′ (lanes f s)) (λ s. missed g′ (lanes g s))
   pass-goes f g f′ g′ h h′ s = then-goes 0 (missed f′) (missed g′) (missed-idle f′) (missed-idle g′) (missed-goes f′ g′ h′) s (lanes f s) (lanes g s) (lanes-goes f g h s)

@@ -1,4 +1,4 @@
--- Who asks for a predicted row: an `asks` event comes from an asker, and each asker has one unless the run is cut off before its row.
+-- Who asks for a predicted row: an `asks` event comes from an asker.
 use Prim.Native.Nat.{ℕ, zero, suc, _<_}
 use native.Mathlib.Omega.{arith}
 use mathlib.Core.Path.{_≡_, refl, sym, ap, _∙_, subst}
@@ -12,14 +12,15 @@ use Rattle.model.specs.Book.Syntax.{Counter, Instr, LookupOrInsertDefaul
 use Rattle.model.specs.Machine.State.{State, Site, Event, asks, going, isGoing, Env, frame}
 use Rattle.model.specs.Machine.Values.{find}
 use Rattle.model.specs.Machine.Steps.{here, tableOf, begin, end, instruction, instructions, step, run}
-use Rattle.model.specs.Claims.Trace.{In, before, Comes, Asker, lane, predicts, AsksSound}
+use Rattle.model.specs.Claims.Demand3.{before}
+use Rattle.model.specs.Claims.Trace.{In, Comes, Asker, lane, predicts, AsksSound}
 use Rattle.model.specs.Laws.Logic.{found-ind, when-ind, when-cases, either}
 use Rattle.model.proofs.Grown.{in-cons, in-none, newer-cases, T-going}
 use Rattle.model.proofs.TraceTurns.{Own}
 use Rattle.model.proofs.TraceRun.{InstrEvent, instruction-adds, predict-adds}
 use Rattle.model.proofs.TraceComes.{asks≢mask}
 
-T-true : (b : Bool) → T b → b ≡ true
+pub T-true : (b : Bool) → T b → b ≡ true
 T-true true t = refl
 T-true false t = absurd t
 

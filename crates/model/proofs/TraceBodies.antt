@@ -165,7 +165,7 @@ module _ (E : Env) (k j : ℕ) where
 
     pub looked : T (isGoing (looks .status)) → ((r : List ℕ) × (find (tableOf E t .keys) (tableOf E t .rows) key ≡ some r) × Hit r) ⊎ ((find (tableOf E t .keys) (tableOf E t .rows) key ≡ none) × Missed)
     looked g =
-        let a : AtTurn k j (lookup E (here k j i) t args col (miss i)) i s looks = lanes-at k j _ (λ _ _. Quiet) h s i g l in
+        let a : AtTurn k j isLive (λ x. lookup E (here k j x) t args col (miss x)) i s looks = lanes-at k j _ (λ _ _. Quiet) h s i g l in
         let c = look-went (here k j i) E (a .start) t args col (miss i) (turn-went a g) in
         let same : c .0 ≡ key = some-inj (sym (list-values (s .bindings) i (tableOf E t .keys) args (subst (λ b. listOf b i (tableOf E t .keys) args ≡ some (c .0)) (a .before .bindings) (c .1))) ∙ read) in
         either
@@ -173,7 +173,7 @@ module _ (E : Env) (k j : ℕ) where
         (λ p. inr (subst (λ y. find (tableOf E t .keys) (tableOf E t .rows) y ≡ none) same (p .0), (a .start, a .before, subst (λ y. Apart i (miss i (note (reads (here k j i) y) (a .start))) looks) same (subst (λ z. Apart i z looks) (p .1) (a .after)))))
         (c .2)
       where
-        hit : (a : AtTurn k j (lookup E (here k j i) t args col (miss i)) i s looks) (r : List ℕ) (w : ℕ) (ws : List ℕ) → getElem? r col ≡ some w → Apart i (give i w (note (took (here k j i) r) (note (reads (here k j i) ws) (a .start)))) looks → Hit r
+        hit : (a : AtTurn k j isLive (λ x. lookup E (here k j x) t args col (miss x)) i s looks) (r : List ℕ) (w : ℕ) (ws : List ℕ) → getElem? r col ≡ some w → Apart i (give i w (note (took (here k j i) r) (note (reads (here k j i) ws) (a .start)))) looks → Hit r
         hit a r w ws e m = (
           gave-took (here k j i) col r w (note (reads (here k j i) ws) (a .start)) looks e (omega (arith, live-below (s .live) i l, a .before .kept .size, size)) m,
           longer-trans _ (s .log) (a .start .log) (looks .log) (a .before .grows .log) (m .grows .log),
@@ -181,31 +181,34 @@ module _ (E : Env) (k j : ℕ) where
 
   -- ## Bodies
 
-  -- a lane that is served found no row
-  serve-asks : (t : ℕ) (args : List QueryEntry) (vs : List WriteVal) (col dst : ℕ) (s : State) → length (s .out) ≡ length (s .live) → (x : ℕ)
-      → let f : ℕ → State → State = λ i. serveMissed E (here k j i) dst t args vs col in
-      let s₁ : State = lanes (firstTurn (LookupOrInsertDefault t args vs col dst)) s in
-      T (isMissed (turns isMissed f s₁ x) x) → (t′ : ℕ) (key : List ℕ) → Served dst t args x (turns isMissed f s₁ x) t′ key → AsksOf (LookupOrInsertDefault t args vs col dst) s x t′ key
-  serve-asks t args vs col dst s size x m t′ key p =
+  -- a lane that is served is live, and found no row
+  pub serve-asks : (t : ℕ) (args : List QueryEntry) (vs : List WriteVal) (col dst : ℕ) (s : State) → length (s .out) ≡ length (s .live) → (x : ℕ) (z : State)
+      → Apart x (lanes (firstTurn (LookupOrInsertDefault t args vs col dst)) s) z → T (isMissed z x) → (key : List ℕ) → listOf (hold dst (z .bindings)) x (tableOf E t .keys) args ≡ some key
+      → T (getD (s .live) x false) × Misses E s x t args key
+  serve-asks t args vs col dst s size x z b m key p =
       let ins : Instr = LookupOrInsertDefault t args vs col dst in
-      let s₁ : State = lanes (firstTurn ins) s in
-      let z : State = turns isMissed (λ i. serveMissed E (here k j i) dst t args vs col) s₁ x in
-      let b : Apart x s₁ z = pass-before k j isMissed _ (Served dst t args) (serve-turn dst t args vs col) s₁ x in
-      let a : Later s s₁ = lanes-later k j (firstTurn ins) (λ _ _. Quiet) (first-turn ins) s in
+      let a : Later s (lanes (firstTurn ins) s) = lanes-later k j (firstTurn ins) (λ _ _. Quiet) (first-turn ins) s in
       let q = and-T (isLive z x) (isNone (getD (z .out) x none)) m in
       let q′ = and-T (isGoing (z .status)) (getD (z .live) x false) (q .0) in
-      let read : valuesOf (s .bindings) x args ≡ some key = hold-values dst (s .bindings) x args (list-values (hold dst (s .bindings)) x (tableOf E t .keys) args (subst (λ y. listOf (hold dst y) x (tableOf E t .keys) args ≡ some key) (b .bindings ∙ a .bindings) (p .1))) in
-      either
-      (λ y. absurd (subst (λ o. T (isNone o)) (b .kept .dsts x (λ n. n refl) ∙ y .2 .0 .dst) (q .1)))
-      (λ y. subst (λ u. AsksOf ins s x u key) (sym (p .0)) (args, vs, col, dst, refl, (read, y .0)))
-      (looked t args col (λ _. wait) (first-turn ins) s size x (a .kept .fewer x (b .kept .fewer x (q′ .1))) key read (b .grows .goes (q′ .0)))
+      let l : T (getD (s .live) x false) = a .kept .fewer x (b .kept .fewer x (q′ .1)) in
+      let read : valuesOf (s .bindings) x args ≡ some key = hold-values dst (s .bindings) x args (list-values (hold dst (s .bindings)) x (tableOf E t .keys) args (subst (λ y. listOf (hold dst y) x (tableOf E t .keys) args ≡ some key) (b .bindings ∙ a .bindings) p)) in (
+        l,
+        (
+          read,
+          either
+              (λ y. absurd (subst (λ o. T (isNone o)) (b .kept .dsts x (λ n. n refl) ∙ y .2 .0 .dst) (q .1)))
+              (λ y. y .0)
+              (looked t args col (λ _. wait) (first-turn ins) s size x l key read (b .grows .goes (q′ .0))),
+        ),
+      )
 
   pub body-adds : (ins : Instr) (s : State) → length (s .out) ≡ length (s .live) → Grows (LaneEvent ins s) (LaneRecord s) s (body E k j ins s)
   unfolding body
   body-adds (LookupOrInsertDefault t args vs col dst) s size =
       let ins : Instr = LookupOrInsertDefault t args vs col dst in
       grows-trans _ _ s (lanes (firstTurn ins) s) (body E k j ins s) (lanes-add ins s (firstTurn ins) (first-turn ins))
-      (missed-add ins s _ (Served dst t args) (serve-turn dst t args vs col) (lanes (firstTurn ins) s) (lanes-later k j (firstTurn ins) (λ _ _. Quiet) (first-turn ins) s .kept .fewer) (serve-asks t args vs col dst s size))
+      (missed-add ins s _ (Served dst t args) (serve-turn dst t args vs col) (lanes (firstTurn ins) s) (lanes-later k j (firstTurn ins) (λ _ _. Quiet) (first-turn ins) s .kept .fewer)
+      (λ x m u key p. subst (λ y. AsksOf ins s x y key) (sym (p .0)) (args, vs, col, dst, refl, serve-asks t args vs col dst s size x _ (pass-before k j isMissed _ (Served dst t args) (serve-turn dst t args vs col) (lanes (firstTurn ins) s) x) m key (p .1) .1)))
   body-adds (LookupWithDefault t args col dst e) s size = lanes-add (LookupWithDefault t args col dst e) s _ (first-turn (LookupWithDefault t args col dst e))
   body-adds (Lookup t args col dst) s size = lanes-add (Lookup t args col dst) s _ (first-turn (Lookup t args col dst))
   body-adds (LookupWithFallback t key f args col dst) s size = two-add (LookupWithFallback t key f args col dst) s _ _ (first-turn (LookupWithFallback t key f args col dst)) (call-turn 0 dst f args)

@@ -9,13 +9,14 @@ use mathlib.Core.List.{List}
 use lib.Dec.{T}
 use lib.ListN.{length, getD, getElem?}
 use Rattle.model.specs.Basics.{found}
-use Rattle.model.specs.Book.Syntax.{Counter, Instr, dstOf, Rule, Step, ruleAt}
+use Rattle.model.specs.Book.Syntax.{Counter, Instr, dstOf, Rule, Step, batch, ruleAt}
 use Rattle.model.specs.Machine.State.{State, Site, Event, mask, asks, isGoing, going, Env, note}
 use Rattle.model.specs.Machine.Steps.{here, clear, bindOut, anyLive, begin, end, finish, body, instruction, instructions, step, run}
+use Rattle.model.specs.Claims.Demand3.{before}
 use Rattle.model.specs.Claims.Trace.{In, Comes, pre, post}
 use Rattle.model.specs.Laws.Logic.{T-and, when-ind, at-below, either}
 use Rattle.model.specs.Safety.Run.{any-live}
-use Rattle.model.proofs.Idle.{end-idle, instructions-stay}
+use Rattle.model.proofs.Idle.{finish-idle, end-idle, instructions-stay}
 use Rattle.model.proofs.Endless.{still}
 use Rattle.model.proofs.Grown.{newer-in, newer-cases, going-T, Grows, grows-refl, grows-trans, grows-note}
 use Rattle.model.proofs.TracePasses.{At, when-yes}
@@ -38,6 +39,24 @@ module _ (E : Env) (counters : List Counter) (steps : List Step) where
   unfolding run
   run-step k st e g = when-yes (isGoing (run E counters steps k .status)) _ _ (going-T g) ∙ ap (λ o. found o (λ x. step E k x (run E counters steps k)) (λ _. run E counters steps k)) e
 
+  -- a site of instruction m of step k, or after it
+  abbrev pub From : ℕ → ℕ → Site → Type 0
+  From k m o = ((o .step ≡ k) × (m ≤ o .instr)) ⊎ (suc k ≤ o .step)
+
+  -- what a batch has left before instruction m is kept to the end of the run
+  pub batch-grows : (k r lanes : ℕ) (columns : List (List ℕ)) → getElem? steps k ≡ some (batch r lanes columns) → run E counters steps k .status ≡ going → (m : ℕ) → m ≤ length (ruleAt (E .rules) r .instrs)
+      → (n : ℕ) → k < n → GrowsAt (From k m) (λ _. Unit {0}) (before E counters steps k r lanes columns m) (run E counters steps n)
+  unfolding step end
+  batch-grows k r lanes columns is g m le n lt =
+      let R : Rule = ruleAt (E .rules) r in
+      let s₀ : State = begin k R lanes columns (run E counters steps k) in
+      let s₁ : State = instructions E k R (length (R .instrs)) s₀ in
+      let p : State = instructions E k R m s₀ in
+      let a : GrowsAt (From k m) (λ _. Unit {0}) p s₁ = grows-at (λ o q. inl (q .0, q .1)) (λ _ _. tt) p s₁ (instructions-grow E k R s₀ m (length (R .instrs)) le) in
+      let b : GrowsAt (From k m) (λ _. Unit {0}) p (end s₁) = when-ind (GrowsAt (From k m) (λ _. Unit {0}) p) (isGoing (s₁ .status)) _ s₁ (λ _. a) a in
+      let b′ : GrowsAt (From k m) (λ _. Unit {0}) p (run E counters steps (suc k)) = subst (GrowsAt (From k m) (λ _. Unit {0}) p) (sym (run-step k _ is g)) b in
+      grows-trans _ _ p (run E counters steps (suc k)) (run E counters steps n) b′ (grows-at (λ o q. inr (q .0)) (λ _ _. tt) (run E counters steps (suc k)) (run E counters steps n) (run-grows E counters steps (suc k) n lt))
+
   module _ {k j i : ℕ} {ins : Instr} (c : Comes E counters steps k j i ins) where
     -- the lanes' part, and then dst is bound
     abbrev pub lanesPart : State
@@ -56,20 +75,10 @@ module _ (E : Env) (counters : List Counter) (steps : List Step) where
 
     -- a site after the instruction
     abbrev pub Past : Site → Type 0
-    Past o = ((o .step ≡ k) × (suc j ≤ o .instr)) ⊎ (suc k ≤ o .step)
+    Past = From k (suc j)
 
     pub post-grows : (n : ℕ) → k < n → GrowsAt Past (λ _. Unit {0}) (post E counters steps c) (run E counters steps n)
-    unfolding step end
-    post-grows n lt =
-        let R : Rule = ruleAt (E .rules) (c .rule) in
-        let m : ℕ = length (R .instrs) in
-        let s₀ : State = begin k R (c .lanes) (c .columns) (run E counters steps k) in
-        let s₁ : State = instructions E k R m s₀ in
-        let p : State = post E counters steps c in
-        let a : GrowsAt Past (λ _. Unit {0}) p s₁ = grows-at (λ o q. inl (q .0, q .1)) (λ _ _. tt) p s₁ (instructions-grow E k R s₀ (suc j) m (at-below (R .instrs) j (c .isInstr))) in
-        let b : GrowsAt Past (λ _. Unit {0}) p (end s₁) = when-ind (GrowsAt Past (λ _. Unit {0}) p) (isGoing (s₁ .status)) _ s₁ (λ _. a) a in
-        let b′ : GrowsAt Past (λ _. Unit {0}) p (run E counters steps (suc k)) = subst (GrowsAt Past (λ _. Unit {0}) p) (sym (run-step k _ (c .isStep) (c .begun))) b in
-        grows-trans _ _ p (run E counters steps (suc k)) (run E counters steps n) b′ (grows-at (λ o q. inr (q .0)) (λ _ _. tt) (run E counters steps (suc k)) (run E counters steps n) (run-grows E counters steps (suc k) n lt))
+    post-grows n lt = batch-grows k (c .rule) (c .lanes) (c .columns) (c .isStep) (c .begun) (suc j) (at-below (ruleAt (E .rules) (c .rule) .instrs) j (c .isInstr)) n lt
 
     pub part-noted : (n : ℕ) → k < n → {e : Event} → In e (lanesPart .trace) → In e (run E counters steps n .trace)
     part-noted n lt {e} h =
@@ -106,6 +115,13 @@ module _ (E : Env) (counters : List Counter) (steps : List Step) where
         let e : instructions E k R m s₀ ≡ post E counters steps c = instructions-stay E k R (suc j) m (at-below (R .instrs) j (c .isInstr)) s₀ ng in
         let e′ : run E counters steps (suc k) ≡ post E counters steps c = run-step k _ (c .isStep) (c .begun) ∙ ap end e ∙ end-idle (post E counters steps c) ng in
         still E counters steps (suc k) n lt (ap (λ z. isGoing (z .status)) e′ ∙ ng) ∙ e′
+
+    -- nothing is bound then
+    pub part-stays : isGoing (lanesPart .status) ≡ false → post E counters steps c ≡ lanesPart
+    part-stays ng = post-is ∙ finish-idle k (dstOf ins) lanesPart ng
+
+    pub stopped-part : isGoing (lanesPart .status) ≡ false → (n : ℕ) → k < n → run E counters steps n ≡ lanesPart
+    stopped-part ng n lt = post-stays (ap (λ z. isGoing (z .status)) (part-stays ng) ∙ ng) n lt ∙ part-stays ng
 
     pub part-status : post E counters steps c .status ≡ lanesPart .status
     unfolding finish

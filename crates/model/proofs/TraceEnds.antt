@@ -4,13 +4,14 @@ use native.Mathlib.Omega.{arith}
 use mathlib.Core.Path.{_≡_, sym, ap, _∙_, subst}
 use mathlib.Core.Logic.{_⊎_, inl, inr}
 use mathlib.Core.Bool.{Bool, not}
+use mathlib.Core.Option.{some}
 use mathlib.Core.List.{List, _∷_}
 use lib.Dec.{T, eqb}
 use lib.ListN.{length, take, drop}
 use Rattle.model.specs.Basics.{when}
 use Rattle.model.specs.Book.Syntax.{QueryEntry, WriteVal, Instr, LookupOrInsertDefault, LookupWithDefault, Lookup, LookupWithFallback, Insert, InsertIfEq, Remove, External, ExternalWithFallback, AssertEq, AssertNe, AssertAnyNe, ReadCounter, width}
 use Rattle.model.specs.Machine.State.{State, Site, Event, reads, Status, full, isGoing, Bindings, Env, note, lose}
-use Rattle.model.specs.Machine.Values.{hold}
+use Rattle.model.specs.Machine.Values.{hold, listOf}
 use Rattle.model.specs.Machine.Steps.{here, tableOf, isLive, lanes, missed, wait, plain, lookup, invoke, takeColumn, takeDefault, serveMissed, stageList, readPair, anyNe, assertAnyNe}
 use Rattle.model.specs.Check.{entriesOf}
 use Rattle.model.specs.Claims.Trace.{In}
@@ -20,7 +21,7 @@ use Rattle.model.proofs.Grown.{Going, Unstuck}
 use Rattle.model.proofs.Entries.{Word, hold-value, build-word}
 use Rattle.model.proofs.TracePasses.{turns, turns-end, pass, isMissed}
 use Rattle.model.proofs.TraceBodies.{firstTurn, Served, serve-turn}
-use Rattle.model.proofs.Went.{column-went, serve-went, default-went, pair-went, any-went, look-went, call-went, list-went}
+use Rattle.model.proofs.Went.{RowCut, column-went, serve-went, default-went, pair-went, any-went, look-went, call-went, list-went}
 
 abbrev pub OnOrFull : Status → Type 0
 OnOrFull st = T (isGoing st) ⊎ (st ≡ full)
@@ -31,7 +32,7 @@ module _ (o : Site) (s : State) (g : Going s) where
   column-on : (col : ℕ) (r : List ℕ) → Unstuck (takeColumn o col r s) → Going (takeColumn o col r s)
   column-on col r u = subst Going (sym (column-went o col r s u .2)) g
 
-  default-on : (e : QueryEntry) → Unstuck (takeDefault o e s) → Going (takeDefault o e s)
+  pub default-on : (e : QueryEntry) → Unstuck (takeDefault o e s) → Going (takeDefault o e s)
   default-on e u = subst Going (sym (default-went o s e u .2)) g
 
   pair-on : (Z : Status → Type 0) (l r : QueryEntry) (k : ℕ → ℕ → State → State) → ((a b : ℕ) (s : State) → Going s → Unstuck (k a b s) → Z (k a b s .status)) → Unstuck (readPair o l r k s) → Z (readPair o l r k s .status)
@@ -52,7 +53,7 @@ module _ (o : Site) (s : State) (g : Going s) where
 
 -- ## Passes
 
-missed-goes : (s : State) (i : ℕ) → T (isMissed s i) → Going s
+pub missed-goes : (s : State) (i : ℕ) → T (isMissed s i) → Going s
 missed-goes s i t = and-T (isGoing (s .status)) _ (and-T (isLive s i) _ t .0) .0
 
 lose-on : (b : Bool) (i : ℕ) (s : State) → Going s → Going (when b (lose i) s)
@@ -83,9 +84,10 @@ module _ (E : Env) (k j : ℕ) where
   pub first-ends : (ins : Instr) (s : State) → Going s → Unstuck (lanes (firstTurn E k j ins) s) → OnOrFull (lanes (firstTurn E k j ins) s .status)
   first-ends ins s g u = lanes-end (λ z. OnOrFull (z .status)) (firstTurn E k j ins) (first-on ins) s (inl g) u
 
-  -- a pass of lookups or calls, after which missed lanes are served
-  pub looks-go : (t : ℕ) (args : List QueryEntry) (col : ℕ) (s : State) → Going s → let f : ℕ → State → State = λ i. lookup E (here k j i) t args col wait in Unstuck (lanes f s) → Going (lanes f s)
-  looks-go t args col s g u = lanes-end Going _ (λ i z g. look-on (here k j i) z g E t args col wait (λ z g _. g)) s g u
+  -- a pass of lookups, or of calls after which missed lanes are served
+  pub looks-go : (t : ℕ) (args : List QueryEntry) (col : ℕ) (miss : ℕ → State → State) → ((i : ℕ) (s : State) → Going s → Unstuck (miss i s) → Going (miss i s)) → (s : State) → Going s
+      → let f : ℕ → State → State = λ i. lookup E (here k j i) t args col (miss i) in Unstuck (lanes f s) → Going (lanes f s)
+  looks-go t args col miss h s g u = lanes-end Going _ (λ i z g. look-on (here k j i) z g E t args col (miss i) (h i)) s g u
 
   pub calls-go : (f : ℕ) (args : List QueryEntry) (s : State) → Going s → let f′ : ℕ → State → State = λ i. invoke E (here k j i) 0 plain f args wait in Unstuck (lanes f′ s) → Going (lanes f′ s)
   calls-go f args s g u = lanes-end Going _ (λ i z g. call-on (here k j i) z g E 0 plain f args wait (λ z g _. g)) s g u
@@ -105,18 +107,22 @@ module _ (E : Env) (k j : ℕ) where
   NoRoom b vs z = (x : ℕ) × (r : List ℕ) × (rest : List Event) × (z .trace ≡ reads (here k j x) r ∷ rest) × ((e : QueryEntry) → In e (entriesOf vs) → Word b x r e)
 
   module _ (dst t : ℕ) (args : List QueryEntry) (vs : List WriteVal) (col : ℕ) where
+    -- where the run stops in a lane's turn, its counter is spent, or the row that it built has no room
+    pub serve-stops : (x : ℕ) (s : State) → let z : State = serveMissed E (here k j x) dst t args vs col s in Going s → Unstuck z → (Going z → ⊥)
+        → (key : List ℕ) × (listOf (hold dst (s .bindings)) x (tableOf E t .keys) args ≡ some key) × RowCut (here k j x) E (note (reads (here k j x) key) s) (hold dst (s .bindings)) t key vs z
+    serve-stops x s g u n =
+        let z : State = serveMissed E (here k j x) dst t args vs col s in
+        let p = serve-went (here k j x) E s dst t args vs col u in
+        let goes : (r : List ℕ) (s′ : State) → Going s′ → z ≡ takeColumn (here k j x) col r s′ → ⊥ = λ r s′ g′ e. n (subst Going (sym e) (column-on (here k j x) s′ g′ col r (subst Unstuck e u))) in
+        (p .0, p .1, either (λ q. absurd (either (λ y. goes (q .0) _ g (y .1)) (λ y. goes (q .0) _ g (y .3)) (q .1))) (λ q. q) (p .2))
+
     serve-full : (x : ℕ) (s : State) → Going s → serveMissed E (here k j x) dst t args vs col s .status ≡ full → NoRoom (s .bindings) vs (serveMissed E (here k j x) dst t args vs col s)
     serve-full x s g f =
-        let z : State = serveMissed E (here k j x) dst t args vs col s in
-        let u : Unstuck z = λ e. stuck≢full (sym e ∙ f) in
-        let p = serve-went (here k j x) E s dst t args vs col u in
-        let goes : (r : List ℕ) (s′ : State) → Going s′ → z ≡ takeColumn (here k j x) col r s′ → ⊥ = λ r s′ g′ e. subst (λ o. T (isGoing o)) f (subst Going (sym e) (column-on (here k j x) s′ g′ col r (subst Unstuck e u))) in
+        let p = serve-stops x s g (λ e. stuck≢full (sym e ∙ f)) (λ r. subst (λ o. T (isGoing o)) f r) in
         either
-        (λ q. absurd (either (λ y. goes (q .0) _ g (y .1)) (λ y. goes (q .0) _ g (y .3)) (q .1)))
-        (either
-        (λ e. absurd (full≢spent (sym f ∙ ap (λ y. y .status) e)))
-        (λ q. (x, q .0, _, ap (λ y. y .trace) (q .3), λ e h. let w = build-word (hold dst (s .bindings)) x vs (p .0) (s .counters) (q .2) .1 e h in (w .0, hold-value dst (s .bindings) x e (w .1), w .2))))
-        (p .2)
+        (λ e. absurd (full≢spent (sym f ∙ ap (λ y. y .status) (e .1))))
+        (λ q. (x, q .0, _, ap (λ y. y .trace) (q .3), λ e h. let w = build-word (hold dst (s .bindings)) x vs (p .0) (s .counters) (q .2) .1 e h in (w .0, hold-value dst (s .bindings) x e (w .1), w .2)))
+        (p .2 .1)
 
     pub served-full : (s : State) → Going s → let f : ℕ → State → State = λ i. serveMissed E (here k j i) dst t args vs col in missed f s .status ≡ full → NoRoom (s .bindings) vs (missed f s)
     unfolding missed

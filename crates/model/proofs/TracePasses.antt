@@ -44,25 +44,28 @@ same-site o p A B (asks x t key ws) h q = sym (h .0) ∙ q .0
 abbrev pub Unread : ℕ → ℕ → ℕ → State → State → Type 0
 Unread k j i s s′ = (x : ℕ) (e : Event) → i ≤ x → At (here k j x) e → In e (s′ .trace) → In e (s .trace)
 
--- the turn of lane i, the last one if the run stops in it
-pub record AtTurn (k j : ℕ) (f : State → State) (i : ℕ) (s s′ : State) : Type 0 where
+-- lane i has its turn of f, since the test b passes; it is the last one if the run stops in it
+pub record AtTurn (k j : ℕ) (b : State → ℕ → Bool) (f : ℕ → State → State) (i : ℕ) (s s′ : State) : Type 0 where
   pub start : State
+  pub test : T (b start i)
   pub before : Apart i s start
   pub unread : Unread k j i s start
-  pub after : Apart i (f start) s′
-  pub last : (Going (f start) → ⊥) → s′ ≡ f start
+  pub after : Apart i (f i start) s′
+  pub last : (Going (f i start) → ⊥) → s′ ≡ f i start
 
-pub turn-unstuck : {k j : ℕ} {f : State → State} {i : ℕ} {s s′ : State} (a : AtTurn k j f i s s′) → Unstuck s′ → Unstuck (f (a .start))
-turn-unstuck {f = f} a u e = u (ap (λ z. z .status) (a .last (λ g. going-unstuck (f (a .start)) g e)) ∙ e)
+module _ {k j : ℕ} {b : State → ℕ → Bool} {f : ℕ → State → State} {i : ℕ} {s s′ : State} (a : AtTurn k j b f i s s′) where
+  pub turn-unstuck : Unstuck s′ → Unstuck (f i (a .start))
+  turn-unstuck u e = u (ap (λ z. z .status) (a .last (λ g. going-unstuck (f i (a .start)) g e)) ∙ e)
 
-pub turn-went : {k j : ℕ} {f : State → State} {i : ℕ} {s s′ : State} (a : AtTurn k j f i s s′) → Going s′ → Unstuck (f (a .start))
-turn-went {f = f} a g = going-unstuck (f (a .start)) (a .after .grows .goes g)
+  pub turn-went : Going s′ → Unstuck (f i (a .start))
+  turn-went g = going-unstuck (f i (a .start)) (a .after .grows .goes g)
 
--- the run had stopped before lane i had its turn
-pub record CutAt (k j i : ℕ) (s s′ : State) : Type 0 where
+-- the run had stopped before lane i had its turn: where it went at the start, in the turn of a lane before
+pub record CutAt (k j : ℕ) (b : State → ℕ → Bool) (f : ℕ → State → State) (i : ℕ) (s s′ : State) : Type 0 where
   pub stopped : Going s′ → ⊥
   pub before : Apart i s s′
   pub unread : Unread k j i s s′
+  pub by : Going s → (x : ℕ) × (x < i) × (a : AtTurn k j b f x s s′) × (Going (f x (a .start)) → ⊥)
 
 own-other : (k j x i : ℕ) (A : ℕ → List ℕ → Type 0) (e : Event) → x ≢ i → Own (here k j x) A e → Other i e
 own-other k j x i A (mask l m) n h = h
@@ -141,23 +144,47 @@ module _ (k j : ℕ) (b : State → ℕ → Bool) (f : ℕ → State → State) 
       (λ q. inl (subst (Had m n) (ap (λ y. y .lane) (same-site (here k j (q .0)) (here k j x) (A (q .0) (to (q .0))) _ e (q .2) o)) (q .1)))
       inr (newer-cases (HadEvent m n) (to m .trace) (to n .trace) (pass m n le .grows .trace) p)
 
-  -- lane i has its turn, unless the run has stopped before
-  turn-or-cut : ((x : ℕ) → Idle (λ z. when (b z x) (f x) z)) → (i n : ℕ) → i < n → (Going (to i) → T (b (to i) i)) → AtTurn k j (f i) i s (to n) ⊎ CutAt k j i s (to n)
-  turn-or-cut idle i n lt has = either (λ g. inl (turned (has g))) (λ g. inr (cut (T-not (isGoing (to i .status)) g))) (T-cases (isGoing (to i .status)))
+  -- a run that stops does so in the turn of a lane
+  stops-in : Going s → (n : ℕ) → Going (to n) ⊎ ((x : ℕ) × (x < n) × T (b (to x) x) × (Going (to (suc x)) → ⊥))
+  stops-in g zero = inl g
+  stops-in g (suc n) = either
+      (λ r. either inl (λ t. let ng : Going (to (suc n)) → ⊥ = T-not (isGoing (to (suc n) .status)) t in inr (n, omega arith, has r ng, ng)) (T-cases (isGoing (to (suc n) .status))))
+      (λ p. inr (p .0, omega (arith, p .1), p .2, p .3))
+      (stops-in g n)
     where
-      unread : Unread k j i s (to i)
-      unread x e le o p = either (λ had. absurd (omega (arith, had .1))) (λ q. q) (pass-events 0 i (omega arith) x e o p)
+      has : Going (to n) → (Going (to (suc n)) → ⊥) → T (b (to n) n)
+      has r ng = when-cases (λ z. (Going z → ⊥) → T (b (to n) n)) (b (to n) n) (f n) (to n) (λ t _. t) (λ _ ng′. absurd (ng′ r)) ng
 
-      stays : (m : ℕ) → m ≤ n → (Going (to m) → ⊥) → to n ≡ to m
-      stays m le ng = iter-stays _ idle m n le s (not-going (to m .status) ng)
+  unread-before : (x : ℕ) → Unread k j x s (to x)
+  unread-before x y e le o p = either (λ had. absurd (omega (arith, had .1))) (λ q. q) (pass-events 0 x (omega arith) y e o p)
 
-      turned : T (b (to i) i) → AtTurn k j (f i) i s (to n)
-      turned t =
-          let e : to (suc i) ≡ f i (to i) = when-yes (b (to i) i) (f i) (to i) t in
-          record { start = to i; before = pass-before i; unread = unread; after = subst (λ z. Apart i z (to n)) e (pass-after i n lt); last = subst (λ z. (Going z → ⊥) → to n ≡ z) e (stays (suc i) lt) }
+  module _ (idle : (x : ℕ) → Idle (λ z. when (b z x) (f x) z)) (n : ℕ) where
+    stays : (m : ℕ) → m ≤ n → (Going (to m) → ⊥) → to n ≡ to m
+    stays m le ng = iter-stays _ idle m n le s (not-going (to m .status) ng)
 
-      cut : (Going (to i) → ⊥) → CutAt k j i s (to n)
-      cut ng = subst (CutAt k j i s) (sym (stays i (omega arith) ng)) (record { stopped = ng; before = pass-before i; unread = unread })
+    turned : (x : ℕ) → x < n → T (b (to x) x) → AtTurn k j b f x s (to n)
+    turned x l t =
+        let e : to (suc x) ≡ f x (to x) = when-yes (b (to x) x) (f x) (to x) t in
+        record { start = to x; test = t; before = pass-before x; unread = unread-before x; after = subst (λ z. Apart x z (to n)) e (pass-after x n l); last = subst (λ z. (Going z → ⊥) → to n ≡ z) e (stays (suc x) l) }
+
+    -- the turn in which a run stops, of a lane before m
+    pub stop-turn : Going s → (m : ℕ) → m ≤ n → (Going (to m) → ⊥) → (x : ℕ) × (x < m) × (a : AtTurn k j b f x s (to n)) × (Going (f x (a .start)) → ⊥)
+    unfolding turned
+    stop-turn g m le ng = either (λ r. absurd (ng r))
+        (λ p. (p .0, p .1, turned (p .0) (omega (arith, p .1)) (p .2), λ r. p .3 (subst Going (sym (when-yes (b (to (p .0)) (p .0)) (f (p .0)) (to (p .0)) (p .2))) r)))
+        (stops-in g m)
+
+    -- lane i has its turn, unless the run has stopped before
+    turn-or-cut : (i : ℕ) → i < n → (Going (to i) → T (b (to i) i)) → AtTurn k j b f i s (to n) ⊎ CutAt k j b f i s (to n)
+    turn-or-cut i lt has = either (λ g. inl (turned i lt (has g))) (λ g. inr (cut (T-not (isGoing (to i .status)) g))) (T-cases (isGoing (to i .status)))
+      where
+        cut : (Going (to i) → ⊥) → CutAt k j b f i s (to n)
+        cut ng = let e : to n ≡ to i = stays i (omega arith) ng in record {
+          stopped = λ g. ng (subst Going e g);
+          before = subst (Apart i s) (sym e) (pass-before i);
+          unread = subst (Unread k j i s) (sym e) (unread-before i);
+          by = λ g. stop-turn g i (omega arith) ng;
+        }
 
 -- ## The two passes
 
@@ -177,6 +204,11 @@ module _ (k j : ℕ) (f : ℕ → State → State) (A : ℕ → State → ℕ �
   unfolding missed
   missed-later = moves-map (λ _ _. tt) (λ _ _. tt) (λ _ _. tt) s (missed f s) (pass k j isMissed f A h s 0 (length (s .live)) (omega arith))
 
+  -- the lane in whose turn the run stops
+  pub missed-stops : Going s → (Going (missed f s) → ⊥) → (x : ℕ) × (a : AtTurn k j isMissed f x s (missed f s)) × (Going (f x (a .start)) → ⊥)
+  unfolding missed
+  missed-stops g ng = let p = stop-turn k j isMissed f A h s (λ x z e. rw e) (length (s .live)) g (length (s .live)) (omega arith) ng in (p .0, p .2, p .3)
+
 pub lanes-quiet : (k j : ℕ) (f : ℕ → State → State) → ((x : ℕ) (s : State) → Turn (here k j x) Quiet s (f x s)) → (s : State) (o : Site) (u : ℕ) (key ws : List ℕ) → In (asks o u key ws) (lanes f s .trace) → In (asks o u key ws) (s .trace)
 unfolding lanes
 lanes-quiet k j f h s o u key ws p =
@@ -191,19 +223,19 @@ module _ (k j : ℕ) (f : ℕ → State → State) (A : ℕ → State → ℕ �
   missed-then : (s′ : State) → Apart i s s′ → T (getD (s .live) i false) → getD (s .out) i none ≡ none → T (isGoing (s′ .status)) → T (isMissed s′ i)
   missed-then s′ m l e g = T-and (isLive s′ i) (isNone (getD (s′ .out) i none)) (live-then s′ m l g) (rw (m .kept .dsts i (λ n. n refl) ∙ e) tt)
 
-  pub lanes-cut : T (getD (s .live) i false) → AtTurn k j (f i) i s (lanes f s) ⊎ CutAt k j i s (lanes f s)
+  pub lanes-cut : T (getD (s .live) i false) → AtTurn k j isLive f i s (lanes f s) ⊎ CutAt k j isLive f i s (lanes f s)
   unfolding lanes
-  lanes-cut l = turn-or-cut k j isLive f A h s (λ x z e. rw e) i (length (s .live)) (live-below (s .live) i l) (live-then _ (pass-before k j isLive f A h s i) l)
+  lanes-cut l = turn-or-cut k j isLive f A h s (λ x z e. rw e) (length (s .live)) i (live-below (s .live) i l) (live-then _ (pass-before k j isLive f A h s i) l)
 
-  pub missed-cut : T (getD (s .live) i false) → getD (s .out) i none ≡ none → AtTurn k j (f i) i s (missed f s) ⊎ CutAt k j i s (missed f s)
+  pub missed-cut : T (getD (s .live) i false) → getD (s .out) i none ≡ none → AtTurn k j isMissed f i s (missed f s) ⊎ CutAt k j isMissed f i s (missed f s)
   unfolding missed
-  missed-cut l e = turn-or-cut k j isMissed f A h s (λ x z e. rw e) i (length (s .live)) (live-below (s .live) i l) (missed-then _ (pass-before k j isMissed f A h s i) l e)
+  missed-cut l e = turn-or-cut k j isMissed f A h s (λ x z e. rw e) (length (s .live)) i (live-below (s .live) i l) (missed-then _ (pass-before k j isMissed f A h s i) l e)
 
   -- where the run goes on after the pass, each live lane has had its turn
-  pub lanes-at : Going (lanes f s) → T (getD (s .live) i false) → AtTurn k j (f i) i s (lanes f s)
+  pub lanes-at : Going (lanes f s) → T (getD (s .live) i false) → AtTurn k j isLive f i s (lanes f s)
   lanes-at g l = either (λ a. a) (λ c. absurd (c .stopped g)) (lanes-cut l)
 
-  pub missed-at : Going (missed f s) → T (getD (s .live) i false) → getD (s .out) i none ≡ none → AtTurn k j (f i) i s (missed f s)
+  pub missed-at : Going (missed f s) → T (getD (s .live) i false) → getD (s .out) i none ≡ none → AtTurn k j isMissed f i s (missed f s)
   missed-at g l e = either (λ a. a) (λ c. absurd (c .stopped g)) (missed-cut l e)
 
   -- a lane that has its dst is passed over

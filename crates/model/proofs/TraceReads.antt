@@ -9,9 +9,9 @@ use mathlib.Core.List.{List, [], _∷_}
 use lib.Dec.{T}
 use lib.ListN.{length, getD, getElem?, length-replicate}
 use Rattle.model.specs.Book.Syntax.{QueryEntry, WriteVal, Instr, LookupOrInsertDefault, LookupWithDefault, Lookup, LookupWithFallback, Insert, InsertIfEq, Remove, External, ExternalWithFallback, AssertEq, AssertNe, AssertAnyNe, ReadCounter}
-use Rattle.model.specs.Machine.State.{State, Site, Record, Event, reads, took, asks, full, isGoing, Env, note, give, lose, withCounters, logged}
+use Rattle.model.specs.Machine.State.{State, Site, Record, Event, reads, took, asks, spent, full, isGoing, Env, note, give, lose, withCounters, logged}
 use Rattle.model.specs.Machine.Values.{hold, valueOf, valuesOf, listOf}
-use Rattle.model.specs.Machine.Steps.{here, tableOf, wait, plain, clear, lanes, missed, lookup, invoke, serveMissed, takeColumn, body}
+use Rattle.model.specs.Machine.Steps.{here, isLive, tableOf, wait, plain, clear, lanes, missed, lookup, invoke, serveMissed, takeColumn, body}
 use Rattle.model.specs.Check.{entriesOf}
 use Rattle.model.specs.Claims.Trace.{In, readFirst, readThen, Misses, Goes}
 use Rattle.model.specs.Laws.Logic.{none-some, some-inj, either}
@@ -21,14 +21,17 @@ use Rattle.model.proofs.Room.{stuck≢full}
 use Rattle.model.proofs.Grown.{in-cons, in-none, Longer, longer-trans, longer-new, Going, Unstuck, going-unstuck}
 use Rattle.model.proofs.Entries.{Word, list-values, hold-value, hold-values, build-word}
 use Rattle.model.proofs.TraceTurns.{moves-in, moves-refl, Turn, Quiet}
-use Rattle.model.proofs.TracePasses.{Apart, Unread, AtTurn, turn-unstuck, turn-went, CutAt, Later, lanes-cut, missed-cut, lanes-at, missed-at, missed-past, lanes-later, missed-later}
+use Rattle.model.proofs.TracePasses.{Apart, Unread, AtTurn, turn-unstuck, turn-went, CutAt, isMissed, Later, lanes-cut, missed-cut, lanes-at, missed-at, missed-past, lanes-later, missed-later, lanes-quiet}
 use Rattle.model.proofs.Went.{column-went, rowOf, RowWent, cut-unlogged, look-went, serve-went, call-went}
-use Rattle.model.proofs.TraceBodies.{none-at, Took, gave-took, Waits, waits, firstTurn, look-turn, first-turn, call-turn, Served, serve-turn, looked}
-use Rattle.model.proofs.TraceEnds.{first-ends, looks-go, calls-go, missed-go, NoRoom, served-full}
+use Rattle.model.proofs.TraceBodies.{none-at, Took, gave-took, Waits, waits, firstTurn, look-turn, first-turn, call-turn, Served, serve-turn, looked, serve-asks}
+use Rattle.model.proofs.TraceEnds.{missed-goes, first-ends, looks-go, calls-go, missed-go, NoRoom, serve-stops, served-full}
 use Rattle.model.proofs.TraceNotes.{EntryNoted, noted-later, list-entry, call-notes, first-notes, default-notes, equal-notes}
 
 reads-site : {o p : Site} {ws us : List ℕ} {x y : List Event} → reads o ws ∷ x ≡ reads p us ∷ y → o ≡ p
 reads-site e = cc
+
+pub asks≢reads : {o p : Site} {t : ℕ} {key ws us : List ℕ} → asks o t key ws ≡ reads p us → ⊥
+asks≢reads e = let z : _≡_ {A = ℕ} 0 1 = cc in omega arith
 
 -- lane i is live in s₀, where the instruction begins
 module _ (E : Env) (k j : ℕ) (s₀ : State) (g₀ : Going s₀) (i : ℕ) (l : T (getD (s₀ .live) i false)) where
@@ -49,7 +52,7 @@ module _ (E : Env) (k j : ℕ) (s₀ : State) (g₀ : Going s₀) (i : ℕ) (l :
 
   -- ## The first pass
 
-  turn-of : (ins : Instr) → Going (first ins) → AtTurn k j (firstTurn E k j ins i) i s (first ins)
+  turn-of : (ins : Instr) → Going (first ins) → AtTurn k j isLive (firstTurn E k j ins) i s (first ins)
   turn-of ins g = lanes-at k j (firstTurn E k j ins) (λ _ _. Quiet) (first-turn E k j ins) s i g l
 
   -- ## Missed lanes
@@ -93,10 +96,49 @@ module _ (E : Env) (k j : ℕ) (s₀ : State) (g₀ : Going s₀) (i : ℕ) (l :
     served = missed (λ x. serveMissed E (here k j x) dst t args vs col) (first loid)
 
     first-on : Unstuck served → Going (first loid)
-    first-on u = looks-go E k j t args col s g₀ (λ q. u (ap (λ z. z .status) (missed-idle _ (first loid) (ap isGoing q)) ∙ q))
+    first-on u = looks-go E k j t args col (λ _. wait) (λ _ _ g _. g) s g₀ (λ q. u (ap (λ z. z .status) (missed-idle _ (first loid) (ap isGoing q)) ∙ q))
 
-    first-goes : T (isGoing (served .status)) → T (isGoing (first loid .status))
-    first-goes g = missed-later k j _ (Served E k j dst t args) (serve-turn E k j dst t args vs col) (first loid) .grows .goes g
+    -- 13 or 12 ended the run at the row of lane x: it is live and misses, it was the last to read, and no lane from it on has asked since the instruction began
+    pub record CutLane (x : ℕ) : Type 0 where
+      pub key : List ℕ
+      pub live : T (getD (s .live) x false)
+      pub misses : Misses E s x t args key
+      pub ends : (served .status ≡ spent) ⊎ (served .status ≡ full)
+      pub words : List ℕ
+      pub older : List Event
+      pub last : served .trace ≡ reads (here k j x) words ∷ older
+      pub unasked : (y u : ℕ) (ws r : List ℕ) → x ≤ y → In (asks (here k j y) u ws r) (served .trace) → In (asks (here k j y) u ws r) (s .trace)
+
+    -- the lane i, or one before it
+    abbrev pub CutBy : Type 0
+    CutBy = (x : ℕ) × (x ≤ i) × CutLane x
+
+    cut-lane : (x : ℕ) (a : AtTurn k j isMissed (λ x. serveMissed E (here k j x) dst t args vs col) x (first loid) served) → (Going (serveMissed E (here k j x) dst t args vs col (a .start)) → ⊥) → Unstuck served → CutLane x
+    cut-lane x a n u =
+        let p = serve-stops E k j dst t args vs col x (a .start) (missed-goes (a .start) x (a .test)) (turn-unstuck a u) n in
+        either
+        (λ q. cut (p .0) (p .1) (inl (ap (λ z. z .status) (is ∙ q .1))) (p .0) (a .start .trace) (ap (λ z. z .trace) (is ∙ q .1)) (λ y v ws r h. h))
+        (λ q. cut (p .0) (p .1) (inr (ap (λ z. z .status) (is ∙ q .3))) (q .0) _ (ap (λ z. z .trace) (is ∙ q .3)) (λ y v ws r h. either (λ e. absurd (asks≢reads (sym e))) (λ h′. h′) (in-cons _ (a .start .trace) h)))
+        (p .2 .1)
+      where
+        is : served ≡ serveMissed E (here k j x) dst t args vs col (a .start)
+        is = a .last n
+
+        cut : (key : List ℕ) → listOf (hold dst (a .start .bindings)) x (tableOf E t .keys) args ≡ some key → (served .status ≡ spent) ⊎ (served .status ≡ full) → (ws : List ℕ) (older : List Event) → served .trace ≡ reads (here k j x) ws ∷ older
+            → ((y v : ℕ) (us r : List ℕ) → In (asks (here k j y) v us r) older → In (asks (here k j y) v us r) (a .start .trace)) → CutLane x
+        cut key read ends ws older last old =
+            let q = serve-asks E k j t args vs col dst s size x (a .start) (a .before) (a .test) key read in
+            record {
+              key = key;
+              live = q .0;
+              misses = q .1;
+              ends = ends;
+              words = ws;
+              older = older;
+              last = last;
+              unasked = λ y v us r le h. lanes-quiet k j _ (first-turn E k j loid) s (here k j y) v us r
+                  (a .unread y (asks (here k j y) v us r) le (refl, tt) (old y v us r (either (λ e. absurd (asks≢reads (sym e))) (λ h′. h′) (in-cons _ older (subst (In (asks (here k j y) v us r)) last h)))));
+            }
 
     module _ (key : List ℕ) where
       abbrev goOn : Bool → List ℕ → State → State
@@ -116,7 +158,7 @@ module _ (E : Env) (k j : ℕ) (s₀ : State) (g₀ : Going s₀) (i : ℕ) (l :
       abbrev Unlogs : Type 0
       Unlogs = (Going served → ⊥) × Longer (λ q. q .site .lane ≢ i) (s .log) (served .log)
 
-      serves : Misses E s i t args key → Going (first loid) → Unstuck served → Serves ⊎ Unlogs
+      serves : Misses E s i t args key → Going (first loid) → Unstuck served → Serves ⊎ (Unlogs × CutBy)
       serves m g u =
           let w : Waits i s (first loid) = look-waits t args col key m g in
           either
@@ -133,10 +175,10 @@ module _ (E : Env) (k j : ℕ) (s₀ : State) (g₀ : Going s₀) (i : ℕ) (l :
             unstuck = turn-unstuck a u;
             after = a .after;
           }))
-          (λ p. let n = cut-unlogged o E (note (reads o (c .0)) (a .start)) (hold dst (a .start .bindings)) (c .0) vs (serve (a .start)) p in
-          inr (λ g. n .0 (a .after .grows .goes g), longer-trans _ (s .log) (a .start .log) (served .log) log (subst (λ y. Longer (λ q. q .site .lane ≢ i) y (served .log)) (n .1) (a .after .grows .log))))
+          (λ p. let n = cut-unlogged o E (note (reads o (c .0)) (a .start)) (hold dst (a .start .bindings)) t (c .0) vs (serve (a .start)) p in
+          inr ((λ g. n .0 (a .after .grows .goes g), longer-trans _ (s .log) (a .start .log) (served .log) log (subst (λ y. Longer (λ q. q .site .lane ≢ i) y (served .log)) (n .1) (a .after .grows .log))), (i, omega arith, cut-lane i a (n .0) u)))
           (c .2))
-          (λ c. inr (c .stopped, longer-trans _ (s .log) (first loid .log) (served .log) (w .log) (c .before .grows .log)))
+          (λ c. let b = c .by g in inr ((c .stopped, longer-trans _ (s .log) (first loid .log) (served .log) (w .log) (c .before .grows .log)), (b .0, omega (arith, b .1), cut-lane (b .0) (b .2) (b .3) u)))
           (missed-cut k j _ (Served E k j dst t args) (serve-turn E k j dst t args vs col) (first loid) i (w .live) (w .out))
 
       module _ (v : Serves) where
@@ -172,7 +214,7 @@ module _ (E : Env) (k j : ℕ) (s₀ : State) (g₀ : Going s₀) (i : ℕ) (l :
         either
         (λ p. let past = missed-past k j _ (Served E k j dst t args) (serve-turn E k j dst t args vs col) (first loid) i (p .2 .0 .word) (p .2 .0 .dst) in
         absurd (none-new (longer-trans _ (s .log) (first loid .log) (served .log) (p .2 .1) (past .grows .log))))
-        (λ p. either (λ v. serve-words (c .0) v r n le at here′ e h) (λ q. absurd (none-new (q .1))) (serves (c .0) (read, p .0) g u))
+        (λ p. either (λ v. serve-words (c .0) v r n le at here′ e h) (λ q. absurd (none-new (q .0 .1))) (serves (c .0) (read, p .0) g u))
         (looked E k j t args col (λ _. wait) (look-turn E k j t args col) s size i l (c .0) read g)
 
     -- where a row that is built has no room, it is in the last event,
@@ -226,7 +268,7 @@ module _ (E : Env) (k j : ℕ) (s₀ : State) (g₀ : Going s₀) (i : ℕ) (l :
   first-unstuck : (ins : Instr) {e : QueryEntry} → Reads e ins → Unstuck (part ins) → Unstuck (first ins)
   first-unstuck ins h u q = u (ap (λ z. z .status) (rest ins h .1 (λ g. going-unstuck (first ins) g q)) ∙ q)
 
-  cut : (ins : Instr) {e : QueryEntry} → Reads e ins → Unstuck (part ins) → CutAt k j i s (first ins) → PartCut ins
+  cut : (ins : Instr) {e : QueryEntry} → Reads e ins → Unstuck (part ins) → CutAt k j isLive (firstTurn E k j ins) i s (first ins) → PartCut ins
   cut ins h u c =
       subst (λ z. (z .status ≡ full) × Unread k j i s z) (sym (rest ins h .1 (c .stopped)))
       (either (λ g. absurd (c .stopped g)) (λ q. q) (first-ends E k j ins s g₀ (first-unstuck ins h u)), c .unread)
@@ -256,7 +298,7 @@ module _ (E : Env) (k j : ℕ) (s₀ : State) (g₀ : Going s₀) (i : ℕ) (l :
   part-then (Lookup t args col dst) s′ q same u e h y = absurd y
   part-then (LookupWithFallback t key f args col dst) s′ q same u e h y =
       let ins : Instr = LookupWithFallback t key f args col dst in
-      let g : Going (first ins) = looks-go E k j t key col s g₀ (first-unstuck ins (inr h) u) in
+      let g : Going (first ins) = looks-go E k j t key col (λ _. wait) (λ _ _ g _. g) s g₀ (first-unstuck ins (inr h) u) in
       inl (call-entries 0 dst f args (first ins) (look-waits t key col (y .0) (y .1) g) (missed-go E k j 0 dst f args (first ins) g u) e h)
   part-then (Insert t vals) s′ q same u e h y = absurd y
   part-then (InsertIfEq t l r vals) s′ q same u e h y =
@@ -273,7 +315,7 @@ module _ (E : Env) (k j : ℕ) (s₀ : State) (g₀ : Going s₀) (i : ℕ) (l :
   part-then (ReadCounter c dst) s′ q same u e h y = absurd y
 
   -- the predicted row, where no committed row has the key
-  pub part-asks : (t : ℕ) (args : List QueryEntry) (vs : List WriteVal) (col dst : ℕ) (key : List ℕ) → T (isGoing (part (LookupOrInsertDefault t args vs col dst) .status)) → Misses E s i t args key
-      → (r : List ℕ) × (In (asks o t key r) (part (LookupOrInsertDefault t args vs col dst) .trace) × Took o col r (part (LookupOrInsertDefault t args vs col dst)))
+  pub part-asks : (t : ℕ) (args : List QueryEntry) (vs : List WriteVal) (col dst : ℕ) (key : List ℕ) → Unstuck (part (LookupOrInsertDefault t args vs col dst)) → Misses E s i t args key
+      → ((r : List ℕ) × (In (asks o t key r) (part (LookupOrInsertDefault t args vs col dst) .trace) × Took o col r (part (LookupOrInsertDefault t args vs col dst)))) ⊎ CutBy dst t args vs col
   unfolding body
-  part-asks t args vs col dst key g m = serve-took dst t args vs col key (either (λ v. v) (λ p. absurd (p .0 g)) (serves dst t args vs col key m (first-goes dst t args vs col g) (going-unstuck (served dst t args vs col) g)))
+  part-asks t args vs col dst key u m = either (λ v. inl (serve-took dst t args vs col key v)) (λ p. inr (p .1)) (serves dst t args vs col key m (first-on dst t args vs col u) u)

@@ -2,16 +2,16 @@
 use Prim.Native.Nat.{ℕ, _+_}
 use mathlib.Core.Path.{_≡_, refl, ap, subst}
 use mathlib.Core.Logic.{_⊎_, inl, inr}
-use mathlib.Core.Bool.{Bool, true, false, not}
+use mathlib.Core.Bool.{Bool, true, false, _&&_, not}
 use mathlib.Core.Option.{none, some}
 use mathlib.Core.List.{List, [], _∷_, _++_}
 use lib.Dec.{eqb, leb}
 use lib.ListN.{length, getElem?, take, drop}
 use Rattle.model.specs.Basics.{only, first, when}
 use Rattle.model.specs.Book.Syntax.{Counter, QueryEntry, WriteVal, width}
-use Rattle.model.specs.Machine.State.{State, Site, Record, reads, took, asks, spent, full, Bindings, Env, stop, note, give, lose, withCounters, change, logged, logWords}
+use Rattle.model.specs.Machine.State.{State, Site, Record, reads, took, asks, spent, full, predicted, Bindings, Env, stop, note, give, lose, withCounters, change, reply, logged, logWords}
 use Rattle.model.specs.Machine.Values.{hold, valueOf, valuesOf, listOf, find, predictedRows, Built, isStuck, isSpent, built, build}
-use Rattle.model.specs.Machine.Steps.{tableOf, stageNew, rowStart, predictRow, takeColumn, lookup, invoke, takeDefault, serveMissed, stageList, readPair, anyNe, assertAnyNe}
+use Rattle.model.specs.Machine.Steps.{tableOf, stageNew, rowStart, predictRow, takeColumn, lookup, invoke, takeDefault, serveMissed, stageList, readPair, anyNe, assertAnyNe, predict}
 use Rattle.model.specs.Laws.Logic.{found-ind, only-some, only-yes}
 use Rattle.model.specs.Laws.Turns.{need-ind, room-ind}
 use Rattle.model.proofs.Grown.{Going, Unstuck}
@@ -102,17 +102,18 @@ module _ (o : Site) where
           (((first (predictedRows (tableOf E t .keys) t key (s .log)) ≡ some r) × (z ≡ k false r s))
           ⊎ ((cs : List Counter) × (first (predictedRows (tableOf E t .keys) t key (s .log)) ≡ none) × (build b (o .lane) vs (built key (s .counters)) ≡ built r cs) × (z ≡ k true r (logged (rowOf t r) (note (reads o r) (withCounters cs s))))))
 
-      -- or a counter is spent, or the row that is built has no room
-      abbrev pub RowCut : Bindings → List ℕ → List WriteVal → State → Type 0
-      RowCut b key vs z = (z ≡ stop spent s) ⊎ ((r : List ℕ) × (cs : List Counter) × (build b (o .lane) vs (built key (s .counters)) ≡ built r cs) × (z ≡ stop full (note (reads o r) (withCounters cs s))))
+      -- or there is none, and a counter is spent, or the row that is built has no room
+      abbrev pub RowCut : Bindings → ℕ → List ℕ → List WriteVal → State → Type 0
+      RowCut b t key vs z = (first (predictedRows (tableOf E t .keys) t key (s .log)) ≡ none) × (((build b (o .lane) vs (built key (s .counters)) ≡ isSpent) × (z ≡ stop spent s))
+          ⊎ ((r : List ℕ) × (cs : List Counter) × (build b (o .lane) vs (built key (s .counters)) ≡ built r cs) × (z ≡ stop full (note (reads o r) (withCounters cs s)))))
 
       -- in both cases the run has stopped, and nothing is logged
-      pub cut-unlogged : (b : Bindings) (key : List ℕ) (vs : List WriteVal) (z : State) → RowCut b key vs z → (Going z → ⊥) × (z .log ≡ s .log)
-      cut-unlogged b key vs z (inl e) = (λ g. subst Going e g, ap (λ x. x .log) e)
-      cut-unlogged b key vs z (inr (r, cs, q, e)) = (λ g. subst Going e g, ap (λ x. x .log) e)
+      pub cut-unlogged : (b : Bindings) (t : ℕ) (key : List ℕ) (vs : List WriteVal) (z : State) → RowCut b t key vs z → (Going z → ⊥) × (z .log ≡ s .log)
+      cut-unlogged b t key vs z (n, inl (q, e)) = (λ g. subst Going e g, ap (λ x. x .log) e)
+      cut-unlogged b t key vs z (n, inr (r, cs, q, e)) = (λ g. subst Going e g, ap (λ x. x .log) e)
 
       pub row-went : (b : Bindings) (t : ℕ) (key : List ℕ) (vs : List WriteVal) (k : Bool → List ℕ → State → State) → Unstuck (predictRow E o b t key vs s k)
-          → RowWent b t key vs k (predictRow E o b t key vs s k) ⊎ RowCut b key vs (predictRow E o b t key vs s k)
+          → RowWent b t key vs k (predictRow E o b t key vs s k) ⊎ RowCut b t key vs (predictRow E o b t key vs s k)
       unfolding predictRow
       row-went b t key vs k =
           found-ind P (first (predictedRows (tableOf E t .keys) t key (s .log))) _ _ (λ r e u. inl (r, inl (e, refl))) (λ e.
@@ -120,20 +121,36 @@ module _ (o : Site) where
           new e (build b (o .lane) vs B) (ap (build b (o .lane) vs) (only-yes (eqb (length key + length vs) (width (tableOf E t))) _ _ q .1))))
         where
           P : State → Type 0
-          P = If (λ z. RowWent b t key vs k z ⊎ RowCut b key vs z)
+          P = If (λ z. RowWent b t key vs k z ⊎ RowCut b t key vs z)
 
           new : first (predictedRows (tableOf E t .keys) t key (s .log)) ≡ none → (B : Built) → build b (o .lane) vs (built key (s .counters)) ≡ B → P (stageNew E o t B s (k true))
           new e isStuck q = λ u. absurd (u refl)
-          new e isSpent q = λ u. inr (inl refl)
-          new e (built r cs) q = room-ind P (E .room (logWords (s .log ++ (rowOf t r ∷ [])))) _ _ _ (λ u. inl (r, inr (cs, e, q, refl))) (λ u. inr (inr (r, cs, q, refl)))
+          new e isSpent q = λ u. inr (e, inl (q, refl))
+          new e (built r cs) q = room-ind P (E .room (logWords (s .log ++ (rowOf t r ∷ [])))) _ _ _ (λ u. inl (r, inr (cs, e, q, refl))) (λ u. inr (e, inr (r, cs, q, refl)))
 
     -- the key, the row, and its column
     pub serve-went : (s : State) (dst t : ℕ) (args : List QueryEntry) (vs : List WriteVal) (col : ℕ) → Unstuck (serveMissed E o dst t args vs col s)
         → (key : List ℕ) × (listOf (hold dst (s .bindings)) (o .lane) (tableOf E t .keys) args ≡ some key)
-        × (RowWent (note (reads o key) s) (hold dst (s .bindings)) t key vs (λ _ r s′. takeColumn o col r (note (asks o t key r) s′)) (serveMissed E o dst t args vs col s) ⊎ RowCut (note (reads o key) s) (hold dst (s .bindings)) key vs (serveMissed E o dst t args vs col s))
+        × (RowWent (note (reads o key) s) (hold dst (s .bindings)) t key vs (λ _ r s′. takeColumn o col r (note (asks o t key r) s′)) (serveMissed E o dst t args vs col s) ⊎ RowCut (note (reads o key) s) (hold dst (s .bindings)) t key vs (serveMissed E o dst t args vs col s))
     unfolding serveMissed
     serve-went s dst t args vs col =
         need-ind (If (λ z. (key : List ℕ) × (listOf (hold dst (s .bindings)) (o .lane) (tableOf E t .keys) args ≡ some key)
-        × (RowWent (note (reads o key) s) (hold dst (s .bindings)) t key vs (λ _ r s′. takeColumn o col r (note (asks o t key r) s′)) z ⊎ RowCut (note (reads o key) s) (hold dst (s .bindings)) key vs z)))
+        × (RowWent (note (reads o key) s) (hold dst (s .bindings)) t key vs (λ _ r s′. takeColumn o col r (note (asks o t key r) s′)) z ⊎ RowCut (note (reads o key) s) (hold dst (s .bindings)) t key vs z)))
         (listOf (hold dst (s .bindings)) (o .lane) (tableOf E t .keys) args) s _ (λ u. absurd (u refl)) (λ key e u.
         (key, e, row-went (note (reads o key) s) (hold dst (s .bindings)) t key vs _ u))
+
+    -- a prediction answers the committed row, or goes on with a predicted one
+    abbrev pub answers : ℕ → List ℕ → Bool → List ℕ → State → State
+    answers t key new r s′ = reply (predicted new r) (note (took o r) (note (asks o t key r) (when new change s′)))
+
+    pub predict-went : (s : State) (t : ℕ) (key : List ℕ) (vs : List WriteVal) → Unstuck (predict E o t key vs s)
+        → ((r : List ℕ) × (find (tableOf E t .keys) (tableOf E t .rows) key ≡ some r) × (predict E o t key vs s ≡ reply (predicted false r) (note (took o r) s)))
+        ⊎ ((find (tableOf E t .keys) (tableOf E t .rows) key ≡ none) × (RowWent s (λ _. none) t key vs (answers t key) (predict E o t key vs s) ⊎ RowCut s (λ _. none) t key vs (predict E o t key vs s)))
+    unfolding predict
+    predict-went s t key vs =
+        need-ind P (only (eqb (length key) (tableOf E t .keys) && eqb (length key + length vs) (width (tableOf E t))) (some key)) s _ (λ u. absurd (u refl)) (λ _ _.
+        found-ind P (find (tableOf E t .keys) (tableOf E t .rows) key) _ _ (λ r e u. inl (r, e, refl)) (λ e u. inr (e, row-went s (λ _. none) t key vs (answers t key) u)))
+      where
+        P : State → Type 0
+        P = If (λ z. ((r : List ℕ) × (find (tableOf E t .keys) (tableOf E t .rows) key ≡ some r) × (z ≡ reply (predicted false r) (note (took o r) s)))
+            ⊎ ((find (tableOf E t .keys) (tableOf E t .rows) key ≡ none) × (RowWent s (λ _. none) t key vs (answers t key) z ⊎ RowCut s (λ _. none) t key vs z)))

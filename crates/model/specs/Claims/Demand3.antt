@@ -1,20 +1,20 @@
 -- Demand 3: for every book that draws none of refusals 1 to 11, whatever the functions answer, and every list of steps with which that stays so.
-use Prim.Native.Nat.{ℕ, _+_, _<_}
+use Prim.Native.Nat.{ℕ, _+_, _≤_, _<_}
 use mathlib.Core.Path.{_≡_}
 use mathlib.Core.Logic.{_≢_}
 use mathlib.Core.Bool.{Bool, false}
 use mathlib.Core.Option.{Option, none, some}
 use mathlib.Core.List.{List, [], _∷_}
 use lib.Dec.{T}
-use lib.ListN.{length, getD}
+use lib.ListN.{length, getD, getElem?}
 use Rattle.model.specs.Basics.{All, AllPairs}
-use Rattle.model.specs.Book.Syntax.{Clean, Var, Const, WriteVal, Entry, IncCounter, CurrentVal, Table, width, Rule, Step, batch, prediction, tableAt, ruleAt}
+use Rattle.model.specs.Book.Syntax.{Clean, Counter, Var, Const, WriteVal, Entry, IncCounter, CurrentVal, Table, width, Rule, Step, batch, prediction, tableAt, ruleAt}
 use Rattle.model.specs.Book.Words.{Byte, wordsOf}
 use Rattle.model.specs.Book.Read.{tables, counters, rules, steps}
 use Rattle.model.specs.Machine.State.{State, Site, Record, Event, mask, reads, took, asks, stuck, Env}
 use Rattle.model.specs.Machine.Values.{predictedRows}
 use Rattle.model.specs.Machine.Functions.{arity}
-use Rattle.model.specs.Machine.Steps.{run}
+use Rattle.model.specs.Machine.Steps.{begin, instructions, run}
 use Rattle.model.specs.Outcome.{bookRefusal}
 
 -- ## What is supposed of the functions and of the steps
@@ -57,16 +57,6 @@ StepOk ts rs (prediction t key vs) = record {
 abbrev pub Within : List Bool → List Bool → Type 0
 Within m m′ = (i : ℕ) → T (getD m i false) → T (getD m′ i false)
 
--- of a newer and an older event: masks of one batch only lose lanes
-abbrev pub NoReturn : Event → Event → Type 0
-NoReturn (mask k m) (mask k′ m′) = k ≡ k′ → Within m m′
-NoReturn (mask k m) (reads o ws) = Unit {0}
-NoReturn (mask k m) (took o ws) = Unit {0}
-NoReturn (mask k m) (asks o t key ws) = Unit {0}
-NoReturn (reads o ws) e = Unit {0}
-NoReturn (took o ws) e = Unit {0}
-NoReturn (asks o t key ws) e = Unit {0}
-
 -- what a live lane's entries stand for, and the row that its dst comes from
 abbrev pub NotStale : Event → Type 0
 NotStale (mask k m) = Unit {0}
@@ -85,12 +75,23 @@ OneRow E log (asks o t key ws) = predictedRows (tableAt (E .tables) t .keys) t k
 abbrev pub OtherSite : Record → Record → Type 0
 OtherSite a b = a .site ≢ b .site
 
-pub record Claims (E : Env) (s : State) : Type 0 where
-  pub never-stuck : s .status ≢ stuck
-  pub no-return : AllPairs NoReturn (s .trace)
-  pub never-stale : All NotStale (s .trace)
-  pub staged-once : AllPairs OtherSite (s .log)
-  pub one-row : All (OneRow E (s .log)) (s .trace)
+module _ (E : Env) (counters : List Counter) (list : List Step) where
+  -- the batch of step k before instruction j of its rule
+  abbrev pub before : (k r n : ℕ) → List (List ℕ) → ℕ → State
+  before k r n columns j = instructions E k (ruleAt (E .rules) r) j (begin k (ruleAt (E .rules) r) n columns (run E counters list k))
+
+  -- in the first n steps a lane that is live before an instruction was live before each earlier one of its batch
+  abbrev pub NoneReturns : ℕ → Type 0
+  NoneReturns n = (k r lanes : ℕ) (columns : List (List ℕ)) → k < n → getElem? list k ≡ some (batch r lanes columns)
+      → (j j′ : ℕ) → j ≤ j′ → Within (before k r lanes columns j′ .live) (before k r lanes columns j .live)
+
+  -- of the first n steps
+  pub record Claims (n : ℕ) : Type 0 where
+    pub never-stuck : run E counters list n .status ≢ stuck
+    pub no-return : NoneReturns n
+    pub never-stale : All NotStale (run E counters list n .trace)
+    pub staged-once : AllPairs OtherSite (run E counters list n .log)
+    pub one-row : All (OneRow E (run E counters list n .log)) (run E counters list n .trace)
 
 -- ## The claims
 
@@ -103,7 +104,7 @@ abbrev pub Demand3 : Type 0
 Demand3 = (book : List ℕ) → All Byte book → bookRefusal book ≡ none
     → (answer : Answers) → NeverStale answer → (room : ℕ → Bool)
     → (list : List Step) → All (StepOk (tables (wordsOf book)) (rules (wordsOf book))) list
-    → (n : ℕ) → Claims (machine book answer room) (run (machine book answer room) (counters (wordsOf book)) list n)
+    → (n : ℕ) → Claims (machine book answer room) (counters (wordsOf book)) list n
 
 -- a book's own steps are such a list
 abbrev pub OwnSteps : Type 0

@@ -13,7 +13,7 @@ use Rattle.model.specs.Book.Contents.{count, kindOf, groupOf, firstOf, l
 use Rattle.model.specs.Book.Decode.{part, readTable, readRule, rowPlace, instrPlace}
 use Rattle.model.specs.Book.Read.{sizes, tables, counters, rules, step, steps}
 use Rattle.model.specs.Check.{readsOf, heldOf, sizesOf, columnsOf, Fits, IsKnown, NotHeld, Below, Known}
-use Rattle.model.specs.Machine.State.{State, reads, going, spent, Bindings, logWords}
+use Rattle.model.specs.Machine.State.{State, reads, going, spent, Bindings, Env, logWords}
 use Rattle.model.specs.Machine.Values.{hold, valuesOf, find, predictedRows, built, build}
 use Rattle.model.specs.Machine.Functions.{arity}
 use Rattle.model.specs.Machine.Steps.{here, run}
@@ -266,16 +266,17 @@ pub record Overdraws (b : Bindings) (i : ℕ) (key : List ℕ) (vs : List WriteV
   pub reached : build b i before (built key cs) ≡ built row counters
   pub passes : limit < suc (nextOf (getD counters spender noCounter))
 
--- step k stopped in s at a new row that overdraws a counter: a live lane's that last read its key, with dst held out, or a prediction's
+-- step k stopped in s at a new row that overdraws a counter, of a key that neither a committed nor a predicted row has: a live lane's that last read this key, with dst held out, or a prediction's
 pub data Spends (ts : List Table) (rs : List Rule) (k : ℕ) (s : State) : Step → Type 0 where
   byLane : {r n : ℕ} {columns : List (List ℕ)} (j i t : ℕ) (args : List QueryEntry) (vs : List WriteVal) (col dst : ℕ) (key : List ℕ)
       → getElem? (ruleAt rs r .instrs) j ≡ some (LookupOrInsertDefault t args vs col dst) → getD (s .live) i false ≡ true
       → valuesOf (hold dst (s .bindings)) i args ≡ some key → first (s .trace) ≡ some (reads (here k j i) key)
-      → predictedRows (tableAt ts t .keys) t key (s .log) ≡ [] → Overdraws (hold dst (s .bindings)) i key vs (s .counters) → Spends ts rs k s (batch r n columns)
+      → find (tableAt ts t .keys) (tableAt ts t .rows) key ≡ none → predictedRows (tableAt ts t .keys) t key (s .log) ≡ []
+      → Overdraws (hold dst (s .bindings)) i key vs (s .counters) → Spends ts rs k s (batch r n columns)
   byPrediction : {t : ℕ} {key : List ℕ} {vs : List WriteVal} → find (tableAt ts t .keys) (tableAt ts t .rows) key ≡ none
       → predictedRows (tableAt ts t .keys) t key (s .log) ≡ [] → Overdraws (λ _. none) 0 key vs (s .counters) → Spends ts rs k s (prediction t key vs)
 
--- where the machine says that a counter is spent, the step that it did not answer came to one
+-- where the machine says that a counter is spent, whatever its functions and steps, the step that it did not answer came to one
 abbrev pub SpentExact : Type 0
-SpentExact = (w : List ℕ) (k : ℕ) → after w k .status ≡ spent
-    → (st : Step) × (getElem? (steps w) (length (after w k .answers)) ≡ some st) × Spends (tables w) (rules w) (length (after w k .answers)) (after w k) st
+SpentExact = (E : Env) (counters : List Counter) (steps : List Step) (n : ℕ) → let s : State = run E counters steps n in s .status ≡ spent
+    → (st : Step) × (getElem? steps (length (s .answers)) ≡ some st) × Spends (E .tables) (E .rules) (length (s .answers)) s st

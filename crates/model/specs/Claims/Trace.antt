@@ -8,9 +8,10 @@ use mathlib.Core.List.{List, [], _∷_}
 use lib.ListN.{length, getD, getElem?}
 use Rattle.model.specs.Book.Syntax.{Counter, QueryEntry, Var, WriteVal, Instr, LookupOrInsertDefault, LookupWithDefault, Lookup, LookupWithFallback, Insert, InsertIfEq, Remove, External, ExternalWithFallback, AssertEq, AssertNe, AssertAnyNe, ReadCounter, Step, batch, prediction, ruleAt}
 use Rattle.model.specs.Check.{entriesOf, readsOf}
-use Rattle.model.specs.Machine.State.{State, Site, Record, Event, reads, took, asks, Status, going, stuck, spent, full, predicted, Env}
+use Rattle.model.specs.Machine.State.{State, Site, Record, Event, mask, reads, took, asks, going, stuck, spent, full, predicted, Env}
 use Rattle.model.specs.Machine.Values.{valueOf, valuesOf, find}
-use Rattle.model.specs.Machine.Steps.{here, tableOf, begin, instructions, run}
+use Rattle.model.specs.Machine.Steps.{here, tableOf, run}
+use Rattle.model.specs.Claims.Demand3.{before}
 
 -- x stands in the list
 abbrev pub In : {A : Type 0} → A → List A → Type 0
@@ -19,10 +20,6 @@ In x xs = (i : ℕ) × (getElem? xs i ≡ some x)
 -- a word that the trace has lane o reading: from its entries, or from a row
 abbrev pub Noted : List Event → Site → ℕ → Type 0
 Noted tr o w = (ws : List ℕ) × (In (reads o ws) tr ⊎ In (took o ws) tr) × In w ws
-
--- refusal 13 or 12, if the machine is not stuck
-abbrev pub Refused : Status → Type 0
-Refused st = st ≢ stuck → (st ≡ spent) ⊎ (st ≡ full)
 
 -- ## What an instruction makes a lane read
 
@@ -107,10 +104,6 @@ module _ (E : Env) where
   Goes k j s s′ i (ReadCounter c dst) = ⊥
 
   module _ (counters : List Counter) (steps : List Step) where
-    -- the batch of step k before instruction j
-    abbrev pub before : (k r n : ℕ) → List (List ℕ) → ℕ → State
-    before k r n columns j = instructions E k (ruleAt (E .rules) r) j (begin k (ruleAt (E .rules) r) n columns (run E counters steps k))
-
     -- instruction j of step k comes to lane i, which is live
     pub record Comes (k j i : ℕ) (ins : Instr) : Type 0 where
       pub rule : ℕ
@@ -119,15 +112,15 @@ module _ (E : Env) where
       pub isStep : getElem? steps k ≡ some (batch rule lanes columns)
       pub isInstr : getElem? (ruleAt (E .rules) rule .instrs) j ≡ some ins
       pub begun : run E counters steps k .status ≡ going
-      pub goes : before k rule lanes columns j .status ≡ going
-      pub live : getD (before k rule lanes columns j .live) i false ≡ true
+      pub goes : before E counters steps k rule lanes columns j .status ≡ going
+      pub live : getD (before E counters steps k rule lanes columns j .live) i false ≡ true
 
     -- the states before and after the instruction
     abbrev pub pre : {k j i : ℕ} {ins : Instr} → Comes k j i ins → State
-    pre {k} {j} c = before k (c .rule) (c .lanes) (c .columns) j
+    pre {k} {j} c = before E counters steps k (c .rule) (c .lanes) (c .columns) j
 
     abbrev pub post : {k j i : ℕ} {ins : Instr} → Comes k j i ins → State
-    post {k} {j} c = before k (c .rule) (c .lanes) (c .columns) (suc j)
+    post {k} {j} c = before E counters steps k (c .rule) (c .lanes) (c .columns) (suc j)
 
     -- who asks for the predicted row of a table and key: a lane of a lookup-or-insert, or a prediction, that finds no committed row
     pub data Asker : Site → ℕ → List ℕ → Type 0 where
@@ -136,17 +129,34 @@ module _ (E : Env) where
       predicts : {k t : ℕ} {key : List ℕ} (vs : List WriteVal) → getElem? steps k ≡ some (prediction t key vs) → run E counters steps k .status ≡ going
           → find (tableOf E t .keys) (tableOf E t .rows) key ≡ none → Asker (here k 0 0) t key
 
+    -- the row of o was being built when 13 or 12 ended the run: o asks for a row, a lane was the last to read (a prediction is alone in its step), and no lane from o on has asked
+    pub record CutRow (n : ℕ) (o : Site) : Type 0 where
+      pub table : ℕ
+      pub key : List ℕ
+      pub asker : Asker o table key
+      pub ends : (run E counters steps n .status ≡ spent) ⊎ (run E counters steps n .status ≡ full)
+      pub last : ((ws : List ℕ) × (older : List Event) × (run E counters steps n .trace ≡ reads o ws ∷ older)) ⊎ ((vs : List WriteVal) × (getElem? steps (o .step) ≡ some (prediction table key vs)))
+      pub unasked : (i t : ℕ) (key′ r : List ℕ) → o .lane ≤ i → In (asks (here (o .step) (o .instr) i) t key′ r) (run E counters steps n .trace) → ⊥
+
+    -- the row of o, or of a lane before it
+    abbrev pub CutBefore : ℕ → Site → Type 0
+    CutBefore n o = (x : ℕ) × (x ≤ o .lane) × CutRow n (here (o .step) (o .instr) x)
+
     -- ## The claims
+
+    -- the trace has the live lanes before each instruction that a batch comes to
+    abbrev pub MasksNoted : Type 0
+    MasksNoted = (n k r lanes : ℕ) (columns : List (List ℕ)) → getElem? steps k ≡ some (batch r lanes columns) → run E counters steps k .status ≡ going → k < n
+        → (j : ℕ) → j ≤ length (ruleAt (E .rules) r .instrs) → before E counters steps k r lanes columns j .status ≡ going → In (mask k (before E counters steps k r lanes columns j .live)) (run E counters steps n .trace)
 
     -- an `asks` event comes from an asker,
     abbrev pub AsksSound : Type 0
     AsksSound = (n : ℕ) (o : Site) (t : ℕ) (key r : List ℕ) → In (asks o t key r) (run E counters steps n .trace) → Asker o t key × (o .step < n)
 
-    -- and each asker has one, unless the step was refused before its row: then no later lane of the instruction has one either
+    -- and each asker has one, unless the run was cut off at its row or at that of a lane before it
     abbrev pub AsksComplete : Type 0
-    AsksComplete = (n : ℕ) (o : Site) (t : ℕ) (key : List ℕ) → Asker o t key → o .step < n
-        → ((r : List ℕ) × In (asks o t key r) (run E counters steps n .trace))
-        ⊎ (Refused (run E counters steps (suc (o .step)) .status) × ((i t′ : ℕ) (key′ r : List ℕ) → o .lane ≤ i → In (asks (here (o .step) (o .instr) i) t′ key′ r) (run E counters steps n .trace) → ⊥))
+    AsksComplete = (n : ℕ) (o : Site) (t : ℕ) (key : List ℕ) → Asker o t key → o .step < n → run E counters steps n .status ≢ stuck
+        → ((r : List ℕ) × In (asks o t key r) (run E counters steps n .trace)) ⊎ CutBefore n o
 
     -- a stuck machine stays so: where the run is not stuck (demand 3), no instruction was
     abbrev pub StuckStays : Type 0
@@ -161,20 +171,25 @@ module _ (E : Env) where
     EntriesNoted = (n k j i : ℕ) (ins : Instr) (c : Comes k j i ins) → post c .status ≢ stuck → k < n → (e : QueryEntry) → In e (readFirst ins) ⊎ (In e (readThen ins) × Goes k j (pre c) (post c) i ins)
         → ((w : ℕ) × (valueOf (pre c .bindings) i e ≡ some w) × Noted (run E counters steps n .trace) (here k j i) w) ⊎ CutOff n c
 
-    -- and the row that its dst comes from (bound only where the instruction ends): the committed row, or of a lookup-or-insert that finds none the predicted row
+    -- lane i takes its dst from the row: that is noted, and dst is bound where the instruction ends
+    abbrev pub TakesFrom : (n : ℕ) {k j i : ℕ} {ins : Instr} → Comes k j i ins → LookupAt → List ℕ → Type 0
+    TakesFrom n {k} {j} {i} c l r = In (took (here k j i) r) (run E counters steps n .trace) × (post c .status ≡ going → getElem? r (l .col) ≡ valueOf (post c .bindings) i (Var (l .dst)))
+
+    -- and the row that its dst comes from: the committed row, or of a lookup-or-insert that finds none the predicted row that it asks for, unless the run was cut off at its row or at that of a lane before it
     abbrev pub RowsNoted : Type 0
-    RowsNoted = (n k j i : ℕ) (ins : Instr) (c : Comes k j i ins) → post c .status ≡ going → k < n
+    RowsNoted = (n k j i : ℕ) (ins : Instr) (c : Comes k j i ins) → post c .status ≢ stuck → k < n
         → (l : LookupAt) → lookupOf ins ≡ some l
         → (key : List ℕ) → valuesOf (pre c .bindings) i (l .key) ≡ some key
-        → ((r : List ℕ) → find (tableOf E (l .table) .keys) (tableOf E (l .table) .rows) key ≡ some r
-        → In (took (here k j i) r) (run E counters steps n .trace) × (getElem? r (l .col) ≡ valueOf (post c .bindings) i (Var (l .dst))))
+        → ((r : List ℕ) → find (tableOf E (l .table) .keys) (tableOf E (l .table) .rows) key ≡ some r → TakesFrom n c l r)
         × ((args : List QueryEntry) (vs : List WriteVal) → ins ≡ LookupOrInsertDefault (l .table) args vs (l .col) (l .dst) → find (tableOf E (l .table) .keys) (tableOf E (l .table) .rows) key ≡ none
-        → (r : List ℕ) × In (asks (here k j i) (l .table) key r) (run E counters steps n .trace) × In (took (here k j i) r) (run E counters steps n .trace) × (getElem? r (l .col) ≡ valueOf (post c .bindings) i (Var (l .dst))))
+        → ((r : List ℕ) × In (asks (here k j i) (l .table) key r) (run E counters steps n .trace) × TakesFrom n c l r) ⊎ CutBefore n (here k j i))
 
-    -- a prediction reads the row it answers (it answers only where the step ends)
+    -- a prediction reads the row it answers (it answers only where the step ends): the committed row, or where there is none the predicted row that it asks for
     abbrev pub AnswersNoted : Type 0
     AnswersNoted = (n k t : ℕ) (key : List ℕ) (vs : List WriteVal) → getElem? steps k ≡ some (prediction t key vs) → run E counters steps (suc k) .status ≡ going → k < n
         → (new : Bool) × (r : List ℕ) × (run E counters steps (suc k) .answers ≡ predicted new r ∷ run E counters steps k .answers) × In (took (here k 0 0) r) (run E counters steps n .trace)
+        × ((r′ : List ℕ) → find (tableOf E t .keys) (tableOf E t .rows) key ≡ some r′ → r ≡ r′)
+        × (find (tableOf E t .keys) (tableOf E t .rows) key ≡ none → In (asks (here k 0 0) t key r) (run E counters steps n .trace))
 
     -- the words of each record in the log are in a `reads` event of its site
     abbrev pub RecordsNoted : Type 0

@@ -9,7 +9,6 @@ use Rattle.model.specs.Basics.{All, AllPairs}
 use Rattle.model.specs.Book.Syntax.{Clean, Counter, nextOf, limit, QueryEntry, Var, Const, Instr, Table, width, Rule, Step}
 use Rattle.model.specs.Check.{readsOf, Conditions}
 use Rattle.model.specs.Machine.State.{Env}
-use Rattle.model.specs.Machine.Steps.{run}
 use Rattle.model.specs.Claims.Demand3.{NeverStale, StepOk, Claims}
 
 -- refusals 3, 4 and 5 of a table
@@ -40,4 +39,4 @@ pub record Accepted (E : Env) (cs : List Counter) : Type 0 where
 
 -- demand 3 for what has been read
 abbrev pub DemandRead : Type 0
-DemandRead = (E : Env) (counters : List Counter) (steps : List Step) → Accepted E counters → All (StepOk (E .tables) (E .rules)) steps → (n : ℕ) → Claims E (run E counters steps n)
+DemandRead = (E : Env) (counters : List Counter) (steps : List Step) → Accepted E counters → All (StepOk (E .tables) (E .rules)) steps → (n : ℕ) → Claims E counters steps n

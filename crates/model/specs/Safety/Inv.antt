@@ -12,9 +12,9 @@ use Rattle.model.specs.Basics.{All, AllPairs}
 use Rattle.model.specs.Book.Syntax.{Clean, Counter, tableAt}
 use Rattle.model.specs.Machine.State.{State, Site, Record, recordSize, Event, mask, reads, took, asks, Status, stuck, isGoing, Bindings, Env, stop, note, give, lose, withCounters, logged}
 use Rattle.model.specs.Machine.Steps.{here}
-use Rattle.model.specs.Claims.Demand3.{Within, NoReturn, NotStale, OneRow, OtherSite}
+use Rattle.model.specs.Claims.Demand3.{Within, NotStale, OneRow, OtherSite}
 use Rattle.model.specs.Laws.Supposed.{CounterOk}
-use Rattle.model.specs.Laws.Logic.{All-map, All-append, All-all, AllPairs-snoc, some-inj, either, nil-cons}
+use Rattle.model.specs.Laws.Logic.{All-map, All-append, AllPairs-snoc, some-inj, either, nil-cons}
 use Rattle.model.specs.Safety.Rows.{rowsOf, Steady}
 use Rattle.model.specs.Safety.Fetch.{Readable}
 
@@ -48,22 +48,9 @@ earlier-other k j i q r e (inr (a, inr h)) d = omega (arith, h .1, ap (λ s. s .
 
 -- ## The invariant, over the parts of a state
 
--- a mask of step k or before; one of step k holds all lanes that are still live
-abbrev pub Over : ℕ → List Bool → Event → Type 0
-Over k l (mask k′ m) = (k′ ≤ k) × (k′ ≡ k → Within l m)
-Over k l (reads o ws) = Unit {0}
-Over k l (took o ws) = Unit {0}
-Over k l (asks o t key ws) = Unit {0}
-
 -- what has a dst is clean
 abbrev pub CleanOut : List (Option ℕ) → Type 0
 CleanOut out = (i w : ℕ) → getD out i none ≡ some w → Clean w
-
-pub over-fewer : (k : ℕ) (l l′ : List Bool) → Within l′ l → (e : Event) → Over k l e → Over k l′ e
-over-fewer k l l′ h (mask k′ m) o = (o .0, λ e i t. o .1 e i (h i t))
-over-fewer k l l′ h (reads p ws) o = tt
-over-fewer k l l′ h (took p ws) o = tt
-over-fewer k l l′ h (asks p t key ws) o = tt
 
 pub set-within : (l : List Bool) (x : ℕ) → Within (set l x false) l
 set-within [] x i t = t
@@ -91,14 +78,12 @@ module _ (E : Env) where
     pub earlier : All (Earlier k j i) log
     pub single : (t : ℕ) (key : List ℕ) → length (rowsOf E t key log) ≤ 1
 
-  -- the events of a run in step k, with the lanes l live and this log
-  pub record EventsOk (k : ℕ) (l : List Bool) (log : List Record) (tr : List Event) : Type 0 where
+  -- the events of a run with this log
+  pub record EventsOk (log : List Record) (tr : List Event) : Type 0 where
     pub clean : All NotStale tr
     pub oneRow : All (OneRow E log) tr
-    pub noReturn : AllPairs NoReturn tr
-    pub over : All (Over k l) tr
 
-  -- all of it, with the variables K bindings
+  -- all of it, with the variables K bound
   pub record Core (K : ℕ → Type 0) (k j i : ℕ) (b : Bindings) (l : List Bool) (out : List (Option ℕ)) (log : List Record) (cs : List Counter) (tr : List Event) (oc : Status) : Type 0 where
     pub unstuck : oc ≢ stuck
     pub readable : T (isGoing oc) → Readable K b l
@@ -106,7 +91,7 @@ module _ (E : Env) where
     pub outSize : length out ≡ length l
     pub counted : All CounterOk cs
     pub logs : LogOk k j i log
-    pub events : EventsOk k l log tr
+    pub events : EventsOk log tr
 
   abbrev pub Inv : (ℕ → Type 0) → ℕ → ℕ → ℕ → State → Type 0
   Inv K k j i s = Core K k j i (s .bindings) (s .live) (s .out) (s .log) (s .counters) (s .trace) (s .status)
@@ -116,10 +101,6 @@ module _ (E : Env) where
   -- a later place in the run
   pub moved : (k j i k′ j′ i′ : ℕ) (log : List Record) → ((r : Record) → Earlier k j i r → Earlier k′ j′ i′ r) → LogOk k j i log → LogOk k′ j′ i′ log
   moved k j i k′ j′ i′ log f v = record { clean = v .clean; sized = v .sized; apart = v .apart; earlier = All-map f log (v .earlier); single = v .single }
-
-  -- other events of the same kinds of lanes
-  pub seen : (k k′ : ℕ) (l l′ : List Bool) (log : List Record) (tr : List Event) → ((e : Event) → Over k l e → Over k′ l′ e) → EventsOk k l log tr → EventsOk k′ l′ log tr
-  seen k k′ l l′ log tr f v = record { clean = v .clean; oneRow = v .oneRow; noReturn = v .noReturn; over = All-map f tr (v .over) }
 
   single-next : {a b : List (List ℕ)} → length a ≤ 1 → (b ≡ a) ⊎ ((a ≡ []) × (ws : List ℕ) × (b ≡ ws ∷ [])) → length b ≤ 1
   single-next {a} {b} h (inl e) = rw e h
@@ -135,18 +116,17 @@ module _ (E : Env) where
     pub stop-inv : (o : Status) → o ≢ stuck → (T (isGoing o) → ⊥) → Inv K k j i (stop o s)
     stop-inv o h n = record { unstuck = h; readable = λ g. absurd (n g); cleanOut = v .cleanOut; outSize = v .outSize; counted = v .counted; logs = v .logs; events = v .events }
 
-    -- an event that is no mask
-    note-inv : (e : Event) → NotStale e → OneRow E (s .log) e → ((e′ : Event) → NoReturn e e′) → Over k (s .live) e → Inv K k j i (note e s)
-    note-inv e c o n ov = record { unstuck = v .unstuck; readable = v .readable; cleanOut = v .cleanOut; outSize = v .outSize; counted = v .counted; logs = v .logs; events = record { clean = (c, v .events .clean); oneRow = (o, v .events .oneRow); noReturn = (All-all (NoReturn e) (s .trace) n, v .events .noReturn); over = (ov, v .events .over) } }
+    pub note-inv : (e : Event) → NotStale e → OneRow E (s .log) e → Inv K k j i (note e s)
+    note-inv e c o = record { unstuck = v .unstuck; readable = v .readable; cleanOut = v .cleanOut; outSize = v .outSize; counted = v .counted; logs = v .logs; events = record { clean = (c, v .events .clean); oneRow = (o, v .events .oneRow) } }
 
     pub reads-inv : (o : Site) (ws : List ℕ) → All Clean ws → Inv K k j i (note (reads o ws) s)
-    reads-inv o ws c = note-inv (reads o ws) c tt (λ _. tt) tt
+    reads-inv o ws c = note-inv (reads o ws) c tt
 
     pub took-inv : (o : Site) (ws : List ℕ) → All Clean ws → Inv K k j i (note (took o ws) s)
-    took-inv o ws c = note-inv (took o ws) c tt (λ _. tt) tt
+    took-inv o ws c = note-inv (took o ws) c tt
 
     pub asks-inv : (o : Site) (t : ℕ) (key ws : List ℕ) → All Clean ws → rowsOf E t key (s .log) ≡ ws ∷ [] → Inv K k j i (note (asks o t key ws) s)
-    asks-inv o t key ws c e = note-inv (asks o t key ws) c e (λ _. tt) tt
+    asks-inv o t key ws c e = note-inv (asks o t key ws) c e
 
     pub counters-inv : (cs : List Counter) → All CounterOk cs → Inv K k j i (withCounters cs s)
     counters-inv cs c = record { unstuck = v .unstuck; readable = v .readable; cleanOut = v .cleanOut; outSize = v .outSize; counted = c; logs = v .logs; events = v .events }
@@ -155,7 +135,7 @@ module _ (E : Env) where
     give-inv x w c = record { unstuck = v .unstuck; readable = v .readable; cleanOut = λ y w′ e. either (λ q. subst Clean q c) (λ q. v .cleanOut y w′ q) (set-get (s .out) x w y w′ e); outSize = length-set (s .out) x (some w) ∙ v .outSize; counted = v .counted; logs = v .logs; events = v .events }
 
     pub lose-inv : (x : ℕ) → Inv K k j i (lose x s)
-    lose-inv x = record { unstuck = v .unstuck; readable = λ g a b h t. v .readable g a b h (set-within (s .live) x b t); cleanOut = v .cleanOut; outSize = v .outSize ∙ sym (length-set (s .live) x false); counted = v .counted; logs = v .logs; events = seen k k (s .live) (set (s .live) x false) (s .log) (s .trace) (over-fewer k (s .live) (set (s .live) x false) (set-within (s .live) x)) (v .events) }
+    lose-inv x = record { unstuck = v .unstuck; readable = λ g a b h t. v .readable g a b h (set-within (s .live) x b t); cleanOut = v .cleanOut; outSize = v .outSize ∙ sym (length-set (s .live) x false); counted = v .counted; logs = v .logs; events = v .events }
 
     pub logged-inv : (r : Record) → r .site ≡ here k j i → All Clean (r .words) → RowSized r → Steady E (s .log) (s .log ++ (r ∷ [])) → Inv K k j (suc i) (logged r s)
     logged-inv r o c z st = record {
@@ -174,8 +154,6 @@ module _ (E : Env) where
       events = record {
         clean = v .events .clean;
         oneRow = All-map (λ e h. row-next (s .log) (s .log ++ (r ∷ [])) st e h) (s .trace) (v .events .oneRow);
-        noReturn = v .events .noReturn;
-        over = v .events .over;
       };
     }
 

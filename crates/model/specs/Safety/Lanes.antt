@@ -42,7 +42,7 @@ still-some (o ∷ xs) zero w (suc i) a e = (a, e)
 still-some (o ∷ xs) (suc x) w zero a e = (a, e)
 still-some (o ∷ xs) (suc x) w (suc i) a e = still-some xs x w i a e
 
-first-none : {A : Type 0} (xs : List A) → first xs ≡ none → xs ≡ []
+pub first-none : {A : Type 0} (xs : List A) → first xs ≡ none → xs ≡ []
 first-none [] e = refl
 first-none (x ∷ xs) e = absurd (none-some (sym e))
 

@@ -1,5 +1,5 @@
 -- Demand 3: the invariant over instructions, steps and a whole run.
-use Prim.Native.Nat.{ℕ, zero, suc, _+_, _<_}
+use Prim.Native.Nat.{ℕ, zero, suc, _+_, _≤_, _<_}
 use native.Mathlib.Nat.{not-suc-le-zero, zero-add}
 use native.Mathlib.Omega.{arith}
 use mathlib.Core.Path.{_≡_, refl, sym, ap, _∙_, subst}
@@ -9,20 +9,20 @@ use mathlib.Core.Option.{Option, none, some}
 use mathlib.Core.List.{List, [], _∷_, map, append-nil}
 use lib.Dec.{T, T-not, eqb, eqb-refl}
 use lib.ListN.{length, getD, getElem?, replicate, length-replicate}
-use Rattle.model.specs.Basics.{when, found, only, All, AllPairs}
+use Rattle.model.specs.Basics.{when, found, only, All}
 use Rattle.model.specs.Book.Syntax.{Clean, Counter, Var, Const, WriteVal, Entry, IncCounter, CurrentVal, Instr, dstOf, width, Rule, Step, batch, prediction, tableAt, ruleAt}
-use Rattle.model.specs.Machine.State.{State, Site, Record, Event, mask, reads, took, asks, Status, going, stuck, isGoing, Bindings, survivors, predicted, Env, note, change, reply, frame}
+use Rattle.model.specs.Machine.State.{State, Site, Record, Event, mask, took, asks, Status, going, stuck, isGoing, Bindings, survivors, predicted, Env, note, change, reply, frame}
 use Rattle.model.specs.Machine.Values.{bind, laneOf, find, built, build}
 use Rattle.model.specs.Machine.Steps.{here, tableOf, clear, orStale, bindOut, anyLive, finish, instruction, body, allLive, begin, instructions, end, predict, step, run}
 use Rattle.model.specs.Check.{Sound, readsOf, IsKnown, Below, entriesOf, currentsOf, Known}
 use Rattle.model.specs.Commit.{commit}
-use Rattle.model.specs.Claims.Demand3.{Given, StepOk, NoReturn, NotStale, OneRow, Claims}
+use Rattle.model.specs.Claims.Demand3.{Within, Given, StepOk, NotStale, OneRow}
 use Rattle.model.specs.Laws.Supposed.{TableOk, CleanConst, CounterOk, RuleOk, Accepted, DemandRead}
-use Rattle.model.specs.Laws.Logic.{T-and, or-l, or-r, some-inj, none-some, found-ind, when-ind, only-T, All-map, All-at, All-getD, at-length, either, T-cases, when-cases}
+use Rattle.model.specs.Laws.Logic.{T-and, or-l, or-r, some-inj, none-some, found-ind, when-ind, only-T, All-at, All-getD, at-length, either, le-cases, T-cases, when-cases}
 use Rattle.model.specs.Safety.CheckExact.{known-cases}
 use Rattle.model.specs.Safety.Rows.{rowsOf}
 use Rattle.model.specs.Safety.Fetch.{Readable, find-All, BuiltOk, build-ok}
-use Rattle.model.specs.Safety.Inv.{Inv, next-instr, next-step, Over, LogOk, moved, took-inv, asks-inv}
+use Rattle.model.specs.Safety.Inv.{Inv, next-instr, next-step, LogOk, moved, note-inv, took-inv, asks-inv}
 use Rattle.model.specs.Safety.Lanes.{Lane, Settled, need-some, predict-ok, table-ok}
 use Rattle.model.specs.Safety.Bodies.{Filled, body-ok}
 use Rattle.model.specs.Safety.CommitOk.{commit-ok}
@@ -61,16 +61,7 @@ module _ (E : Env) where
     clear-inv : Inv E K k j q (clear s)
     clear-inv = record { unstuck = v .unstuck; readable = v .readable; cleanOut = λ i w e. absurd (none-replicate (length (s .live)) i w e); outSize = length-replicate (length (s .live)) none; counted = v .counted; logs = v .logs; events = v .events }
 
-    mask-inv : Inv E K k j q (note (mask k (s .live)) s)
-    mask-inv = record { unstuck = v .unstuck; readable = v .readable; cleanOut = v .cleanOut; outSize = v .outSize; counted = v .counted; logs = v .logs; events = record { clean = (tt, v .events .clean); oneRow = (tt, v .events .oneRow); noReturn = (All-map within (s .trace) (v .events .over), v .events .noReturn); over = ((omega arith, λ e i t. t), v .events .over) } }
-      where
-        within : (e : Event) → Over k (s .live) e → NoReturn (mask k (s .live)) e
-        within (mask k′ m) o = λ e. o .1 (sym e)
-        within (reads p ws) o = tt
-        within (took p ws) o = tt
-        within (asks p t key ws) o = tt
-
-    -- dst is bindings
+    -- dst is bound
     abbrev Grown : Option ℕ → ℕ → Type 0
     Grown o x = K x ⊎ (o ≡ some x)
 
@@ -101,55 +92,25 @@ module _ (E : Env) where
 
   -- ## Between steps: nothing of the lanes
 
-  -- a mask of a step before k
-  abbrev Past : ℕ → Event → Type 0
-  Past k (mask k′ m) = k′ < k
-  Past k (reads o ws) = Unit {0}
-  Past k (took o ws) = Unit {0}
-  Past k (asks o t key ws) = Unit {0}
-
   record Rest (k : ℕ) (log : List Record) (cs : List Counter) (tr : List Event) (oc : Status) : Type 0 where
     unstuck : oc ≢ stuck
     counted : All CounterOk cs
     logs : LogOk E k 0 0 log
     clean : All NotStale tr
     oneRow : All (OneRow E log) tr
-    noReturn : AllPairs NoReturn tr
-    past : All (Past k) tr
 
   -- before step k
   abbrev Between : ℕ → State → Type 0
   Between k s = Rest k (s .log) (s .counters) (s .trace) (s .status)
 
   leave : (K : ℕ → Type 0) (k j q : ℕ) (s : State) → Inv E K k j q s → Between (suc k) s
-  leave K k j q s v = record { unstuck = v .unstuck; counted = v .counted; logs = moved E k j q (suc k) 0 0 (s .log) (next-step k j q) (v .logs); clean = v .events .clean; oneRow = v .events .oneRow; noReturn = v .events .noReturn; past = All-map passed (s .trace) (v .events .over) }
-    where
-      passed : (e : Event) → Over k (s .live) e → Past (suc k) e
-      passed (mask k′ m) o = omega (arith, o .0)
-      passed (reads p ws) o = tt
-      passed (took p ws) o = tt
-      passed (asks p t key ws) o = tt
+  leave K k j q s v = record { unstuck = v .unstuck; counted = v .counted; logs = moved E k j q (suc k) 0 0 (s .log) (next-step k j q) (v .logs); clean = v .events .clean; oneRow = v .events .oneRow }
 
   enter : (K : ℕ → Type 0) (k : ℕ) (s : State) (b : Bindings) (l : List Bool) → Between k s → Readable K b l → Inv E K k 0 0 (clear (frame b l [] s))
-  enter K k s b l v rd = record { unstuck = v .unstuck; readable = λ g. rd; cleanOut = λ i w e. absurd (none-replicate (length l) i w e); outSize = length-replicate (length l) none; counted = v .counted; logs = v .logs; events = record { clean = v .clean; oneRow = v .oneRow; noReturn = v .noReturn; over = All-map over (s .trace) (v .past) } }
-    where
-      over : (e : Event) → Past k e → Over k l e
-      over (mask k′ m) p = (omega (arith, p), λ e. absurd (omega (arith, p, e)))
-      over (reads o ws) p = tt
-      over (took o ws) p = tt
-      over (asks o t key ws) p = tt
+  enter K k s b l v rd = record { unstuck = v .unstuck; readable = λ g. rd; cleanOut = λ i w e. absurd (none-replicate (length l) i w e); outSize = length-replicate (length l) none; counted = v .counted; logs = v .logs; events = record { clean = v .clean; oneRow = v .oneRow } }
 
   later : (k : ℕ) (s : State) → Between k s → Between (suc k) s
-  later k s v = record { unstuck = v .unstuck; counted = v .counted; logs = moved E k 0 0 (suc k) 0 0 (s .log) (next-step k 0 0) (v .logs); clean = v .clean; oneRow = v .oneRow; noReturn = v .noReturn; past = All-map past (s .trace) (v .past) }
-    where
-      past : (e : Event) → Past k e → Past (suc k) e
-      past (mask k′ m) p = omega (arith, p)
-      past (reads o ws) p = tt
-      past (took o ws) p = tt
-      past (asks o t key ws) p = tt
-
-  claims : (k : ℕ) (s : State) → Between k s → Claims E s
-  claims k s v = record { never-stuck = v .unstuck; no-return = v .noReturn; never-stale = v .clean; staged-once = v .logs .apart; one-row = v .oneRow }
+  later k s v = record { unstuck = v .unstuck; counted = v .counted; logs = moved E k 0 0 (suc k) 0 0 (s .log) (next-step k 0 0) (v .logs); clean = v .clean; oneRow = v .oneRow }
 
   module _ (tok : All TableOk (E .tables)) (fn : (o : Site) (c f : ℕ) (args : List ℕ) (w : ℕ) → All Clean args → E .answer o c f args ≡ some w → Clean w) where
     -- ## An instruction
@@ -172,8 +133,25 @@ module _ (E : Env) where
             (λ t. advance K k j (p .0) s₁ (p .1 .inv) _ (λ g. absurd (T-not (isGoing (s₁ .status)) t g)))
           where
             masked : (o : Option ℕ) → Inv E (λ x. K x ⊎ (o ≡ some x)) k (suc j) 0 (bindOut o s₁) → Inv E (λ x. K x ⊎ (o ≡ some x)) k (suc j) 0 (note (mask k (s₁ .live)) (bindOut o s₁))
-            masked none v′ = mask-inv _ k (suc j) 0 (bindOut none s₁) v′
-            masked (some d) v′ = mask-inv _ k (suc j) 0 (bindOut (some d) s₁) v′
+            masked none v′ = note-inv E _ k (suc j) 0 (bindOut none s₁) v′ (mask k (s₁ .live)) tt tt
+            masked (some d) v′ = note-inv E _ k (suc j) 0 (bindOut (some d) s₁) v′ (mask k (s₁ .live)) tt tt
+
+    -- none of its lanes comes back
+    instruction-fewer : (K : ℕ → Type 0) (k j : ℕ) (ins : Instr) (s : State) → Inv E K k j 0 s → Sound (E .tables) (E .arity) K ins → All CleanConst (readsOf ins) → Within (instruction E k j ins s .live) (s .live)
+    unfolding instruction finish
+    instruction-fewer K k j ins s v c cn =
+        when-ind (λ z. Within (z .live) (s .live)) (isGoing (s .status) && anyLive (s .live)) (λ s′. finish k (dstOf ins) (body E k j ins (clear s′))) s
+        (λ _. when-ind (λ z. Within (z .live) (s .live)) (isGoing (s₁ .status)) (λ s′. note (mask k (s′ .live)) (bindOut (dstOf ins) s′)) s₁ (λ _. bound (dstOf ins)) fewer) (λ i t. t)
+      where
+        s₁ : State
+        s₁ = body E k j ins (clear s)
+
+        fewer : Within (s₁ .live) (s .live)
+        fewer = body-ok E tok fn K k j (clear s) (clear-inv K k j 0 s v) ins c cn .1 .fewer
+
+        bound : (o : Option ℕ) → Within (bindOut o s₁ .live) (s .live)
+        bound none = fewer
+        bound (some d) = fewer
 
     -- ## A batch
 
@@ -183,7 +161,7 @@ module _ (E : Env) where
     grown : (r : Rule) (j : ℕ) (ins : Instr) → getElem? (r .instrs) j ≡ some ins → (x : ℕ) → Known r (suc j) x → Known r j x ⊎ (dstOf ins ≡ some x)
     grown r j ins e x h = either inl (λ p. inr (subst (λ y. dstOf y ≡ some x) (some-inj (sym (p .1) ∙ e)) (p .2))) (known-cases r j x h)
 
-    -- past the last instruction nothing more is bindings
+    -- past the last instruction nothing more is bound
     over-end : (r : Rule) (j : ℕ) → getElem? (r .instrs) j ≡ none → (x : ℕ) → Known r (suc j) x → Known r j x
     over-end r j e x h = either (λ p. p) (λ p. absurd (none-some (sym e ∙ p .1))) (known-cases r j x h)
 
@@ -196,6 +174,21 @@ module _ (E : Env) where
         found-ind (Inv E (Known r (suc n)) k (suc n) 0) (getElem? (r .instrs) n) (λ ins. instruction E k n ins s₁) (λ _. s₁)
         (λ ins e. more _ (Known r (suc n)) k (suc n) 0 (instruction E k n ins s₁) (grown r n ins e) (instruction-ok (Known r n) k n ins s₁ v₁ (ok .conditions n ins e) (ok .consts n ins e)))
         (λ e. advance (Known r n) k n 0 s₁ v₁ (Known r (suc n)) (λ g x i kx l. v₁ .readable g x i (over-end r n e x kx) l))
+
+    instructions-fewer : (k : ℕ) (r : Rule) → RuleOk E r → (s : State) → Inv E (Known r 0) k 0 0 s → (j j′ : ℕ) → j ≤ j′ → Within (instructions E k r j′ s .live) (instructions E k r j s .live)
+    unfolding instructions
+    instructions-fewer k r ok s v j zero le = let e : j ≡ zero = omega arith in subst (λ x. Within (instructions E k r zero s .live) (instructions E k r x s .live)) (sym e) (λ i t. t)
+    instructions-fewer k r ok s v j (suc n) le = either
+        (λ (lt : j < suc n) i t. instructions-fewer k r ok s v j n (omega arith) i (next i t))
+        (λ e. subst (λ x. Within (instructions E k r (suc n) s .live) (instructions E k r x s .live)) (sym e) (λ i t. t))
+        (le-cases {m = j} {n = suc n} (omega arith))
+      where
+        s₁ : State
+        s₁ = instructions E k r n s
+
+        next : Within (instructions E k r (suc n) s .live) (s₁ .live)
+        next = found-ind (λ z. Within (z .live) (s₁ .live)) (getElem? (r .instrs) n) (λ ins. instruction E k n ins s₁) (λ _. s₁)
+            (λ ins e. instruction-fewer (Known r n) k n ins s₁ (instructions-ok k r ok n s v) (ok .conditions n ins e) (ok .consts n ins e)) (λ _ i t. t)
 
     live-lane : (v n i x : ℕ) → x < v → T (getD (allLive v n) i false) → i < n
     live-lane zero n i x h t = absurd (not-suc-le-zero h)
@@ -219,8 +212,8 @@ module _ (E : Env) where
         → Between k s → Inv E (Known r 0) k 0 0 (begin k r n columns s)
     unfolding begin
     begin-ok k r n columns s len sz cl v =
-        mask-inv (Known r 0) k 0 0 (clear (frame (getElem? columns) (allLive (r .starts) n) [] s))
-        (enter (Known r 0) k s (getElem? columns) (allLive (r .starts) n) v (start-read r n columns len sz cl))
+        note-inv E (Known r 0) k 0 0 (clear (frame (getElem? columns) (allLive (r .starts) n) [] s))
+        (enter (Known r 0) k s (getElem? columns) (allLive (r .starts) n) v (start-read r n columns len sz cl)) _ tt tt
 
     end-ok : (k : ℕ) (s : State) → Between k s → Between k (end s)
     unfolding end
@@ -263,15 +256,17 @@ module _ (E : Env) where
 
     -- ## Steps
 
+    rule-ok : All (RuleOk E) (E .rules) → (r : ℕ) → RuleOk E (ruleAt (E .rules) r)
+    rule-ok rok r = All-getD (RuleOk E) (E .rules) r _ rok (record { consts = λ j ins e. absurd (none-some e); conditions = λ j ins e. absurd (none-some e) })
+
     step-ok : (rok : All (RuleOk E) (E .rules)) (k : ℕ) (st : Step) (s : State) → StepOk (E .tables) (E .rules) st → Between k s → Between (suc k) (step E k st s)
     unfolding step
     step-ok rok k (batch r n columns) s h v =
         let R : Rule = ruleAt (E .rules) r in
-        let ok : RuleOk E R = All-getD (RuleOk E) (E .rules) r _ rok (record { consts = λ j ins e. absurd (none-some e); conditions = λ j ins e. absurd (none-some e) }) in
         let m : ℕ = length (R .instrs) in
         let s₀ : State = begin k R n columns s in
         let s₁ : State = instructions E k R m s₀ in
-        end-ok (suc k) s₁ (leave (Known R m) k m 0 s₁ (instructions-ok k R ok m s₀ (begin-ok k R n columns s (h .count) (h .sized) (h .clean) v)))
+        end-ok (suc k) s₁ (leave (Known R m) k m 0 s₁ (instructions-ok k R (rule-ok rok r) m s₀ (begin-ok k R n columns s (h .count) (h .sized) (h .clean) v)))
     step-ok rok k (prediction t key vs) s h v =
         predict-step k t key vs (frame (λ _. none) [] [] s) (enter (λ _. ⊥) k s (λ _. none) [] v (λ x i kx l. absurd kx)) (h .keys) (h .vals) (h .clean) (h .given)
 
@@ -282,7 +277,7 @@ going≢stuck e = let z : _≡_ {A = ℕ} 0 1 = cc in omega arith
 
 run-ok : (E : Env) (cs : List Counter) (steps : List Step) → Accepted E cs → All (StepOk (E .tables) (E .rules)) steps → (n : ℕ) → Between E n (run E cs steps n)
 unfolding run
-run-ok E cs steps ac ok zero = record { unstuck = going≢stuck; counted = ac .counters; logs = record { clean = tt; sized = tt; apart = tt; earlier = tt; single = λ t key. omega arith }; clean = tt; oneRow = tt; noReturn = tt; past = tt }
+run-ok E cs steps ac ok zero = record { unstuck = going≢stuck; counted = ac .counters; logs = record { clean = tt; sized = tt; apart = tt; earlier = tt; single = λ t key. omega arith }; clean = tt; oneRow = tt }
 run-ok E cs steps ac ok (suc n) =
     let s : State = run E cs steps n in
     let v : Between E n s = run-ok E cs steps ac ok n in
@@ -293,9 +288,20 @@ run-ok E cs steps ac ok (suc n) =
     (λ t. later E n s v)
 
 pub demand-read : DemandRead
-demand-read E cs steps ac ok n = claims E n (run E cs steps n) (run-ok E cs steps ac ok n)
+demand-read E cs steps ac ok n =
+    let v : Between E n (run E cs steps n) = run-ok E cs steps ac ok n in
+    record {
+      never-stuck = v .unstuck;
+      no-return = λ k r lanes columns lt is.
+          let h = All-at (StepOk (E .tables) (E .rules)) steps k ok is in
+          instructions-fewer E (ac .tables) (ac .functions) k (ruleAt (E .rules) r) (rule-ok E (ac .tables) (ac .functions) (ac .rules) r) _
+          (begin-ok E (ac .tables) (ac .functions) k (ruleAt (E .rules) r) lanes columns (run E cs steps k) (h .count) (h .sized) (h .clean) (run-ok E cs steps ac ok k));
+      never-stale = v .clean;
+      staged-once = v .logs .apart;
+      one-row = v .oneRow;
+    }
 
--- what is committed after a run is again as a book must have it, and so are the counters: the next run can rowStart from there
+-- what is committed after a run is again as a book must have it, and so are the counters: the next run can start from there
 pub run-commit : (E : Env) (cs : List Counter) (steps : List Step) → Accepted E cs → All (StepOk (E .tables) (E .rules)) steps → (n : ℕ)
     → All TableOk (commit (run E cs steps n .log) (E .tables) 0) × All CounterOk (run E cs steps n .counters)
 run-commit E cs steps ac ok n =
