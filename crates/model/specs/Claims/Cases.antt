@@ -1,12 +1,18 @@
 -- The cases K1 to K12 of document 01: one table about `outcome`, whole books in and whole answers or refusals with their places out.
 use Prim.Native.Nat.{ℕ}
 use mathlib.Core.Path.{_≡_}
-use mathlib.Core.Option.{some}
+use mathlib.Core.Bool.{true}
+use mathlib.Core.Option.{none, some}
 use mathlib.Core.List.{List, [], _∷_}
-use lib.ListN.{set}
 use Rattle.model.specs.Basics.{All}
-use Rattle.model.specs.Book.Words.{bytesOf}
-use Rattle.model.specs.Outcome.{Lent, Outcome, refused, accepted, left, outcome}
+use Rattle.model.specs.Book.Words.{Byte, wordsOf, bytesOf}
+use Rattle.model.specs.Book.Read.{counters, steps}
+use Rattle.model.specs.Machine.State.{State, asks, Env}
+use Rattle.model.specs.Machine.Functions.{apply}
+use Rattle.model.specs.Machine.Steps
+use Rattle.model.specs.Outcome.{Lent, Outcome, refused, accepted, bookRefusal, left, outcome}
+use Rattle.model.specs.Claims.Demand3.{NeverStale, StepOk, Claims, machine}
+use Rattle.model.specs.Claims.Trace.{In}
 use Rattle.model.specs.Printed.{run, ins, changed, table, counter, printed}
 
 -- what program `dispatch` lends
@@ -66,9 +72,9 @@ k10 = record { book = 3 ∷ 1 ∷ 10 ∷ 6 ∷ 3 ∷ 16 ∷ 9 ∷ 4 ∷ 25 ∷ 5
 abbrev pub k11 : Case
 k11 = record { book = 3 ∷ 1 ∷ 10 ∷ 4 ∷ 3 ∷ 14 ∷ 12 ∷ 4 ∷ 26 ∷ 4 ∷ 1 ∷ 1 ∷ 0 ∷ 0 ∷ 1 ∷ 1 ∷ 1 ∷ 0 ∷ 1 ∷ 0 ∷ 0 ∷ 1 ∷ 3 ∷ 1 ∷ 1 ∷ 1 ∷ 0 ∷ 1 ∷ 1 ∷ 4 ∷ []; result = refused (record { number = 9; place = 16 }) }
 
--- K12: counter at 4294967294, one miss: 13
+-- K12: counter at 4294967294, one lane, which misses: 13
 abbrev pub k12 : Case
-k12 = record { book = set k1Words 19 4294967294; result = refused (record { number = 13; place = 3 }) }
+k12 = record { book = 4 ∷ 1 ∷ 13 ∷ 4 ∷ 2 ∷ 17 ∷ 1 ∷ 3 ∷ 18 ∷ 12 ∷ 4 ∷ 30 ∷ 4 ∷ 1 ∷ 1 ∷ 0 ∷ 0 ∷ 4294967294 ∷ 1 ∷ 1 ∷ 1 ∷ 0 ∷ 1 ∷ 0 ∷ 0 ∷ 1 ∷ 2 ∷ 0 ∷ 1 ∷ 1 ∷ 0 ∷ 1 ∷ 1 ∷ 5 ∷ []; result = refused (record { number = 13; place = 3 }) }
 
 abbrev pub cases : List Case
 cases = k1 ∷ k2 ∷ k3 ∷ k4 ∷ k5 ∷ k6 ∷ k7 ∷ k8 ∷ k9 ∷ k10 ∷ k11 ∷ k12 ∷ []
@@ -82,3 +88,26 @@ K1Column = left dispatchLends (bytesOf k1Words) .bindings 1 ≡ some (40 ∷ 100
 
 abbrev pub K1Lines : Type 0
 K1Lines = printed dispatchLends (bytesOf k1Words) ≡ run 0 4 ∷ ins 0 (5 ∷ 100 ∷ []) ∷ ins 0 (8 ∷ 101 ∷ []) ∷ changed 0 ∷ table 0 3 ∷ counter 0 102 ∷ []
+
+-- ## Demand 3 is not empty
+
+abbrev pub k1Bytes : List ℕ
+k1Bytes = bytesOf k1Words
+
+-- the functions 0 to 7, and a log without end
+abbrev pub k1Machine : Env
+k1Machine = machine k1Bytes (λ _ _. apply) (λ _. true)
+
+abbrev pub k1Run : ℕ → State
+k1Run n = Steps.run k1Machine (counters (wordsOf k1Bytes)) (steps (wordsOf k1Bytes)) n
+
+-- K1's bytes, the functions and K1's steps are such as demand 3 supposes, the claims hold of them, and lanes do ask there: lanes 1 and 2 for one row, lane 3 for another
+pub record K1Demand3 : Type 0 where
+  pub bytes : All Byte k1Bytes
+  pub unrefused : bookRefusal k1Bytes ≡ none
+  pub answers : NeverStale (k1Machine .answer)
+  pub fit : All (StepOk (k1Machine .tables) (k1Machine .rules)) (steps (wordsOf k1Bytes))
+  pub claims : (n : ℕ) → Claims k1Machine (counters (wordsOf k1Bytes)) (steps (wordsOf k1Bytes)) n
+  pub lane1 : In (asks (Steps.here 0 0 1) 0 (5 ∷ []) (5 ∷ 100 ∷ [])) (k1Run 1 .trace)
+  pub lane2 : In (asks (Steps.here 0 0 2) 0 (5 ∷ []) (5 ∷ 100 ∷ [])) (k1Run 1 .trace)
+  pub lane3 : In (asks (Steps.here 0 0 3) 0 (8 ∷ []) (8 ∷ 101 ∷ [])) (k1Run 1 .trace)
