@@ -114,9 +114,16 @@ fn distance(x: u32, y: u32) -> Answer
     }
 }
 
-fn of_two(f: u32, x: u32, y: u32) -> Answer
-    ensures { λ r. ⌜ answerOf r ≡ model.apply f (x ∷ y ∷ []) ⌝ }
+// What a function answers on these arguments: nothing where there is no such function, or it takes more or fewer.
+pub fn invoke(func: ExternalFunctionId, args: Args) -> Answer
+    ensures { λ r. ⌜ answerOf r ≡ model.apply (func .0) (asList args) ⌝ }
 {
+    if args.count != arity(func) {
+        return Answer::Nothing;
+    }
+    let x = args.vals[0];
+    let y = args.vals[1];
+    let f = func.0;
     match f {
         0 => sum(x, y),
         1 => difference(x, y),
@@ -124,23 +131,8 @@ fn of_two(f: u32, x: u32, y: u32) -> Answer
         3 => at_most(x, y),
         4 => least(x, y),
         5 => greatest(x, y),
-        6 => Answer::Nothing,
+        6 => load_band(x),
         7 => distance(x, y),
-        _ => Answer::Nothing,
-    }
-}
-
-// What a function answers on these arguments: nothing where there is no such function, or not on so many.
-pub fn invoke(func: ExternalFunctionId, args: Args) -> Answer
-    ensures { λ r. ⌜ answerOf r ≡ model.apply (func .0) (asList args) ⌝ }
-{
-    let f = func.0;
-    let count = args.count;
-    let x = args.vals[0];
-    let y = args.vals[1];
-    match count {
-        1 => load_band(x),
-        2 => of_two(f, x, y),
         _ => Answer::Nothing,
     }
 }

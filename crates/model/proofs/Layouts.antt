@@ -9,6 +9,7 @@ use borrow.Author.Tests.{ltb-true, leb-true, lt-ltb, le-leb}
 use lib.ListN.{length, getD}
 use Rattle.model.specs.Basics.{iter}
 use Rattle.model.specs.Book.Layout.{Field, table, counter, function, dst, column, divider, entry, entries, writes, formOf}
+use Rattle.model.specs.Machine.Functions.{functionCount}
 use Rattle.model.specs.Book.Scan.{Draw, fine, three, Scan, bad, good, _▹_, Sizes, anyWord, below, upTo, opcode, tag, tagged, step, word, list, pair, field, walk, instr}
 use Rattle.model.specs.Claims.Grammar as grammar
 use Rattle.model.specs.Claims.Grammar.{Role, plain, oneOf, Word, plainly, Times, tagRole, Pair, Listed, listed, FieldForm, FieldsForm, InstrForm}
@@ -150,7 +151,7 @@ module _ (w : List ℕ) (end : ℕ) where
     unfolding field
     parse-field table = parse-number (oneOf (z .tables)) (below (z .tables)) (tells-role (oneOf (z .tables)))
     parse-field counter = parse-number (oneOf (z .counters)) (below (z .counters)) (tells-role (oneOf (z .counters)))
-    parse-field function = parse-number (oneOf 8) (below 8) (tells-role (oneOf 8))
+    parse-field function = parse-number (oneOf functionCount) (below functionCount) (tells-role (oneOf functionCount))
     parse-field dst = parse-number (oneOf 32) (below 32) (tells-role (oneOf 32))
     parse-field column = parse-number plain anyWord (tells-role plain)
     parse-field divider = parse-number plain anyWord (tells-role plain)

@@ -7,6 +7,7 @@ use lib.ListN.{length, getD}
 use Rattle.model.specs.Basics.{iter}
 use Rattle.model.specs.Book.Syntax.{stale}
 use Rattle.model.specs.Book.Layout.{Field, table, counter, function, dst, column, divider, entry, entries, writes, forms, formOf}
+use Rattle.model.specs.Machine.Functions.{functionCount}
 
 -- what a word draws
 pub data Draw : Type 0 where
@@ -111,7 +112,7 @@ module _ (end : ℕ) where
       unfoldable pub field : Field → Scan → Scan
       field table = word (below (z .tables))
       field counter = word (below (z .counters))
-      field function = word (below 8)
+      field function = word (below functionCount)
       field dst = word (below 32)
       field column = word anyWord
       field divider = word anyWord

@@ -5,6 +5,7 @@ use mathlib.Core.List.{List, [], _∷_, _++_, map}
 use lib.ListN.{length, getD}
 use Rattle.model.specs.Book.Syntax.{stale}
 use Rattle.model.specs.Book.Layout.{Field, table, counter, function, dst, column, divider, entry, entries, writes, formOf}
+use Rattle.model.specs.Machine.Functions.{functionCount}
 use Rattle.model.specs.Book.Scan.{Sizes}
 
 pub data Role : Type 0 where
@@ -53,7 +54,7 @@ module _ (z : Sizes) where
   abbrev pub FieldForm : Field → List Word → Type 0
   FieldForm table ms = (x : ℕ) × (ms ≡ number (z .tables) x ∷ [])
   FieldForm counter ms = (x : ℕ) × (ms ≡ number (z .counters) x ∷ [])
-  FieldForm function ms = (x : ℕ) × (ms ≡ number 8 x ∷ [])
+  FieldForm function ms = (x : ℕ) × (ms ≡ number functionCount x ∷ [])
   FieldForm dst ms = (x : ℕ) × (ms ≡ number 32 x ∷ [])
   FieldForm column ms = (x : ℕ) × (ms ≡ plainly x ∷ [])
   FieldForm divider ms = (x : ℕ) × (ms ≡ plainly x ∷ [])

@@ -11,6 +11,7 @@ use lib.ListN.{getD}
 use Rattle.model.specs.Basics.{iter}
 use Rattle.model.specs.Laws.Lists.{below-suc}
 use Rattle.model.specs.Book.Layout.{Field, table, counter, function, dst, column, divider, entry, entries, writes}
+use Rattle.model.specs.Machine.Functions.{functionCount}
 use Rattle.model.specs.Book.Scan.{Draw, fine, three, six, four, Scan, bad, good, _▹_, earliest, mark, require, Sizes, anyWord, below, upTo, clean, opcode, tag, tagged, step, finish, left, word, list, block, pair, field, walk, instr, scanTable, scanCounter, scanRule, scanBatch, scanPrediction}
 use Rattle.model.specs.Book.Syntax.{stale}
 use Rattle.model.specs.Book.Decode.{after, past, fieldsAt, next, instrPlace}
@@ -134,7 +135,7 @@ module _ (z : Sizes) (w : List ℕ) (end : ℕ) where
   abbrev pub FieldOk : Field → ℕ → Type 0
   FieldOk table at = below (z .tables) (x at) ≡ fine
   FieldOk counter at = below (z .counters) (x at) ≡ fine
-  FieldOk function at = below 8 (x at) ≡ fine
+  FieldOk function at = below functionCount (x at) ≡ fine
   FieldOk dst at = below 32 (x at) ≡ fine
   FieldOk column at = Unit {0}
   FieldOk divider at = Unit {0}
@@ -152,7 +153,7 @@ module _ (z : Sizes) (w : List ℕ) (end : ℕ) where
   unfolding after field
   field-walks table = word-walks (below (z .tables))
   field-walks counter = word-walks (below (z .counters))
-  field-walks function = word-walks (below 8)
+  field-walks function = word-walks (below functionCount)
   field-walks dst = word-walks (below 32)
   field-walks column = λ at p q h l. map-result refl (λ _. tt) (word-walks anyWord at p q h l)
   field-walks divider = λ at p q h l. map-result refl (λ _. tt) (word-walks anyWord at p q h l)
