@@ -10,6 +10,7 @@ ghost use Rattle.answer.specs.Runs.{runs};
 ghost use Rattle.answer.specs.Layout.{rowsLength, tableWords};
 use crate::entries;
 use crate::put;
+use ids::TableId;
 
 // The first n words go d words to the right, the last one first.
 pub fn shift(answer: &mut [u32], n: usize, d: usize)
@@ -24,22 +25,23 @@ pub fn shift(answer: &mut [u32], n: usize, d: usize)
     }
 }
 
-// Table t, whose rows stand at the word `from` of `rows`; and the word past it.
+// A table, whose rows stand at the word `from` of `rows`; and the word past it.
 fn write_table(
     words: &[u32],
     counts: &[u32],
     rows: &[u32],
     from: usize,
-    t: usize,
+    table: TableId,
     at: usize,
     answer: &mut [u32],
 ) -> usize
-    requires { ⌜ (t < 16) × (rowsLength (now words) (now counts) t ≤ 16384) × (from + rowsLength (now words) (now counts) t ≤ length (now rows)) × (at + length (tableWords (now words) (now counts) (now rows) from t) ≤ length (now answer)) ⌝ }
-    ensures words { λ _. ⌜ now (answer .exit) ≡ sets (now (answer .entry)) at (tableWords (now (words .entry)) (now (counts .entry)) (now (rows .entry)) from t) ⌝ }
-    ensures end { λ r. ⌜ r ≡ at + length (tableWords (now (words .entry)) (now (counts .entry)) (now (rows .entry)) from t) ⌝ }
+    requires { ⌜ (table .0 < 16) × (rowsLength (now words) (now counts) (table .0) ≤ 16384) × (from + rowsLength (now words) (now counts) (table .0) ≤ length (now rows)) × (at + length (tableWords (now words) (now counts) (now rows) from (table .0)) ≤ length (now answer)) ⌝ }
+    ensures words { λ _. ⌜ now (answer .exit) ≡ sets (now (answer .entry)) at (tableWords (now (words .entry)) (now (counts .entry)) (now (rows .entry)) from (table .0)) ⌝ }
+    ensures end { λ r. ⌜ r ≡ at + length (tableWords (now (words .entry)) (now (counts .entry)) (now (rows .entry)) from (table .0)) ⌝ }
 {
+    let t = table.0 as usize;
     let body = contents::first_of(words, t);
-    let n = entries::rows_length(words, counts, t);
+    let n = entries::rows_length(words, counts, table);
     answer[at] = words::word(words, body);
     answer[at + 1] = words::word(words, body + 1);
     answer[at + 2] = words::word(words, body + 2);
@@ -64,8 +66,9 @@ pub fn write_tables(
     let mut at = start;
     let mut t = 0;
     while t < n {
-        at = write_table(words, counts, rows, from, t, at, answer);
-        from += entries::rows_length(words, counts, t);
+        let table = TableId(t as u32);
+        at = write_table(words, counts, rows, from, table, at, answer);
+        from += entries::rows_length(words, counts, table);
         t += 1;
     }
     at

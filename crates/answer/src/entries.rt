@@ -40,12 +40,13 @@ pub fn shape_of(words: &[u32]) -> Shape
     }
 }
 
-// How many words the rows of table t have.
-pub fn rows_length(words: &[u32], counts: &[u32], t: usize) -> usize
-    requires { ⌜ (t < 16) × (rowsLength (now words) (now counts) t ≤ 16384) ⌝ }
-    ensures { λ r. ⌜ r ≡ rowsLength (now (words .entry)) (now (counts .entry)) t ⌝ }
+// How many words the rows of a table have.
+pub fn rows_length(words: &[u32], counts: &[u32], table: TableId) -> usize
+    requires { ⌜ (table .0 < 16) × (rowsLength (now words) (now counts) (table .0) ≤ 16384) ⌝ }
+    ensures { λ r. ⌜ r ≡ rowsLength (now (words .entry)) (now (counts .entry)) (table .0) ⌝ }
 {
-    let info = tables::info_of(words, TableId(t as u32));
+    let t = table.0 as usize;
+    let info = tables::info_of(words, table);
     let n = words::size(words::word(counts, t));
     n * info.width
 }
@@ -73,7 +74,7 @@ fn entry_of(
     let steps = counters + z.counters;
     let log = steps + z.steps;
     if i < counters {
-        let n = rows_length(words, counts, i);
+        let n = rows_length(words, counts, TableId(i as u32));
         return Entry {
             kind: 1,
             length: 4 + n,

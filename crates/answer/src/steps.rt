@@ -11,6 +11,7 @@ ghost use Rattle.answer.specs.Runs.{runs};
 ghost use Rattle.answer.specs.Steps.{placed, columnWords, batchWords, predictionWords};
 use crate::put;
 use bound::Bound;
+use ids::Variable;
 use mask::Mask;
 use tables::Place;
 
@@ -52,22 +53,22 @@ fn bound_count(bound: Bound) -> usize
     n
 }
 
-// Variable v and its column, if it is bound; and the word past them.
+// A variable and its column, if it is bound; and the word past them.
 fn write_column(
     bindings: &[u32],
     known: bool,
-    v: usize,
+    v: Variable,
     lanes: usize,
     at: usize,
     answer: &mut [u32],
 ) -> usize
-    requires { ⌜ (v < 32) × (lanes ≤ 256) × (length (now bindings) ≡ 8192) × (at + length (columnWords (now bindings) lanes known v) ≤ length (now answer)) ⌝ }
-    ensures words { λ _. ⌜ now (answer .exit) ≡ sets (now (answer .entry)) at (columnWords (now (bindings .entry)) lanes known v) ⌝ }
-    ensures end { λ r. ⌜ r ≡ at + length (columnWords (now (bindings .entry)) lanes known v) ⌝ }
+    requires { ⌜ (v .0 < 32) × (lanes ≤ 256) × (length (now bindings) ≡ 8192) × (at + length (columnWords (now bindings) lanes known (v .0)) ≤ length (now answer)) ⌝ }
+    ensures words { λ _. ⌜ now (answer .exit) ≡ sets (now (answer .entry)) at (columnWords (now (bindings .entry)) lanes known (v .0)) ⌝ }
+    ensures end { λ r. ⌜ r ≡ at + length (columnWords (now (bindings .entry)) lanes known (v .0)) ⌝ }
 {
     if known {
-        let from = 256 * v;
-        answer[at] = v as u32;
+        let from = 256 * (v.0 as usize);
+        answer[at] = v.0;
         return put::write(&bindings[from..from + lanes], at + 1, answer);
     }
     at
@@ -88,7 +89,14 @@ fn write_columns(
     let mut at = start;
     let mut v = 0;
     while v < 32 {
-        at = write_column(bindings, bound.known[v], v, lanes, at, answer);
+        at = write_column(
+            bindings,
+            bound.known[v],
+            Variable(v as u32),
+            lanes,
+            at,
+            answer,
+        );
         v += 1;
     }
     at

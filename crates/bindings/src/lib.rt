@@ -58,9 +58,10 @@ pub fn fetch(words: &[u32], bindings: &[u32], lane: Lane, at: usize, count: usiz
 }
 
 // The word of a column in one of its lanes, or 0 past them.
-fn in_lane(column: &[u32], lanes: usize, i: usize) -> u32
-    ensures { λ r. ⌜ r ≡ getD (take lanes (now (column .entry))) i 0 ⌝ }
+fn in_lane(column: &[u32], lanes: usize, lane: Lane) -> u32
+    ensures { λ r. ⌜ r ≡ getD (take lanes (now (column .entry))) (lane .0) 0 ⌝ }
 {
+    let i = lane.0;
     if i < lanes { words::word(column, i) } else { 0 }
 }
 
@@ -72,7 +73,7 @@ pub fn bind(bindings: &mut [u32], dst: Variable, column: &[u32], lanes: usize)
     let at = 256 * words::size(dst.0);
     let mut i: usize = 0;
     while i < 256 {
-        bindings[at + i] = in_lane(column, lanes, i);
+        bindings[at + i] = in_lane(column, lanes, Lane(i));
         i += 1;
     }
 }

@@ -35,6 +35,6 @@ count l = howMany (λ i. getD l i false) (length l)
 abbrev pub pastLast : (ℕ → Bool) → ℕ → ℕ
 pastLast p n = iter (λ i. when (p i) (λ _. suc i)) n 0
 
--- the lane past the last live one
+-- how many lanes there are up to the last live one, and with it
 unfoldable pub end : List Bool → ℕ
 end l = pastLast (λ i. getD l i false) (length l)

@@ -2,7 +2,7 @@
 use ids::Lane;
 ghost use mathlib.Core.Path.{_≡_};
 ghost use mathlib.Core.Bool.{true, false, not, cond};
-ghost use Prim.Native.Nat.{_≤_, max};
+ghost use Prim.Native.Nat.{_≤_, _<_, max};
 ghost use lib.ListN.{getD, set};
 ghost use Rattle.model.specs.Machine.Steps.{anyLive};
 ghost use Rattle.mask.specs.Masks.{firstLanes, united, without, count, end};
@@ -11,18 +11,24 @@ pub struct Mask {
     pub live: [bool; 256],
 }
 
-// A lane if it is live, else 0. A function of its own, as `later` is: so `end` compiles to a maximum of bytes, 16 lanes at once.
-fn marked(lane: u8, live: bool) -> u8
-    ensures is { λ r. ⌜ r ≡ cond live lane 0 ⌝ }
-    ensures within { λ r. ⌜ r ≤ lane ⌝ }
+// A lane as a byte. With this, and with `marked` and `later` as functions of their own, `end` compiles to a maximum of bytes, 16 lanes at once.
+struct LaneByte(u8);
+
+// A lane if it is live, else lane 0.
+fn marked(lane: Lane, live: bool) -> LaneByte
+    requires { ⌜ lane .0 < 256 ⌝ }
+    ensures is { λ r. ⌜ r .0 ≡ cond live (lane .0) 0 ⌝ }
+    ensures within { λ r. ⌜ r .0 ≤ lane .0 ⌝ }
 {
-    if live { lane } else { 0 }
+    let i = lane.0 as u8;
+    if live { LaneByte(i) } else { LaneByte(0) }
 }
 
-fn later(a: u8, b: u8) -> u8
-    ensures { λ r. ⌜ r ≡ max a b ⌝ }
+// The later of two lanes.
+fn later(a: LaneByte, b: LaneByte) -> LaneByte
+    ensures { λ r. ⌜ r .0 ≡ max (a .0) (b .0) ⌝ }
 {
-    if a < b { b } else { a }
+    if a.0 < b.0 { b } else { a }
 }
 
 impl Mask {
@@ -90,18 +96,18 @@ impl Mask {
         n
     }
 
-    // The lane past the last live one; 0 where none is.
+    // How many lanes there are up to the last live one, and with it; 0 where none is.
     pub fn end(self) -> usize
         ensures is { λ r. ⌜ r ≡ end (self .live) ⌝ }
         ensures within { λ r. ⌜ r ≤ 256 ⌝ }
     {
-        let mut last: u8 = 0;
+        let mut last = LaneByte(0);
         let mut i = 0;
         while i < 256 {
-            last = later(last, marked(i as u8, self.live[i]));
+            last = later(last, marked(Lane(i), self.live[i]));
             i += 1;
         }
-        let at = last as usize;
+        let at = last.0 as usize;
         if self.live[at] { at + 1 } else { 0 }
     }
 

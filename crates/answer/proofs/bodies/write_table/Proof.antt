@@ -13,10 +13,13 @@ use Rattle.answer.proofs.bodies.write_table.Statement.{statement}
 use Rattle.answer.proofs.bodies.write_table.Tie as tie
 
 -- the table's four words and its rows have room
-room : (c : tie.After-rows-length) → c .before .before .before .before .before .before .args .at + 4 + c .rows-length .result ≤ length (now (c .before .before .before .before .before .before .args .answer))
+room : (c : tie.After-rows-length) → c .before .before .before .before .before .before .before .args .at + 4 + c .rows-length .result ≤ length (now (c .before .before .before .before .before .before .before .args .answer))
 room c =
-    let a = c .before .before .before .before .before .before .args in
-    omega (arith, c .rows-length .ensures, c .before .before .before .before .before .before .pre .3, length-part (now (a .rows)) (a .from) (rowsLength (now (a .words)) (now (a .counts)) (a .t)) (c .before .before .before .before .before .before .pre .2))
+    let a = c .before .before .before .before .before .before .before .args in
+    omega (arith, c .rows-length .ensures, c .before .before .before .before .before .before .before .pre .3, length-part (now (a .rows)) (a .from) (rowsLength (now (a .words)) (now (a .counts)) (a .table .0)) (c .before .before .before .before .before .before .before .pre .2))
+
+cast-t : tie.Need-cast-t
+cast-t c = search needs
 
 first-of-requires : tie.Need-first-of-requires
 first-of-requires c κs = search needs
@@ -95,20 +98,20 @@ add-write-2 c = search needs
 
 write-requires : tie.Need-write-requires
 write-requires c κs =
-    let a = c .before .before .before .before .before .before .before .before .before .before .before .before .args in
+    let a = c .before .before .before .before .before .before .before .before .before .before .before .before .before .args in
     let n = c .before .before .before .before .before .before .rows-length .result in
-    simp length-set (omega (arith, room (c .before .before .before .before .before .before), length-part (now (a .rows)) (a .from) (a .from + n - a .from) (omega (arith, c .before .before .before .before .before .before .rows-length .ensures, c .before .before .before .before .before .before .before .before .before .before .before .before .pre .2))))
+    simp length-set (omega (arith, room (c .before .before .before .before .before .before), length-part (now (a .rows)) (a .from) (a .from + n - a .from) (omega (arith, c .before .before .before .before .before .before .rows-length .ensures, c .before .before .before .before .before .before .before .before .before .before .before .before .before .pre .2))))
 
 same-length : tie.Need-same-length
 same-length c = c .before .before .write .kept .1 .1 .0 ∙ simp length-set
 
 returns : tie.Need-returns
 returns c =
-    let a = c .before .before .before .before .before .before .before .before .before .before .before .before .before .before .before .args in
+    let a = c .before .before .before .before .before .before .before .before .before .before .before .before .before .before .before .before .args in
     let w = c .before .before .write .ensures in
-    let e = add-sub-cancel-left (a .from) (rowsLength (now (a .words)) (now (a .counts)) (a .t)) in
+    let e = add-sub-cancel-left (a .from) (rowsLength (now (a .words)) (now (a .counts)) (a .table .0)) in
     let f = c .before .before .before .before .before .before .before .before .before .before .first-of .ensures .0 in (
-      w .0 ∙ rw (c .before .before .before .before .before .before .before .before .before .rows-length .ensures, e, c .before .before .before .before .before .before .before .before .word .ensures, c .before .before .before .before .before .before .before .word2 .ensures, c .before .before .before .before .before .before .word3 .ensures, c .before .before .before .before .before .word4 .ensures, f) (put-four _ _ _ _ (part (now (a .rows)) (a .from) (rowsLength (now (a .words)) (now (a .counts)) (a .t))) (now (a .answer)) (a .at)),
+      w .0 ∙ rw (c .before .before .before .before .before .before .before .before .before .rows-length .ensures, e, c .before .before .before .before .before .before .before .before .word .ensures, c .before .before .before .before .before .before .before .word2 .ensures, c .before .before .before .before .before .before .word3 .ensures, c .before .before .before .before .before .word4 .ensures, f) (put-four _ _ _ _ (part (now (a .rows)) (a .from) (rowsLength (now (a .words)) (now (a .counts)) (a .table .0))) (now (a .answer)) (a .at)),
       w .1 ∙ rw (c .before .before .before .before .before .before .before .before .before .rows-length .ensures, e) (omega arith),
     )
 
@@ -116,6 +119,7 @@ pub write-table-spec : {M : Type 1} → statement M
 write-table-spec =
     tie.close
     (tie.spec
+    cast-t
     first-of-requires
     rows-length-requires
     word-requires

@@ -21,6 +21,9 @@ abbrev μ-loop : tie.MeasureT-loop
 loop-holds : tie.Need-loop-holds Inv-loop μ-loop
 loop-holds c = (search needs, search needs, sym (sum-none _), end-none _ _, put-none _ _ _)
 
+cast-t12 : tie.Need-cast-t12 Inv-loop μ-loop
+cast-t12 c = search needs
+
 write-table-requires : tie.Need-write-table-requires Inv-loop μ-loop
 write-table-requires c κs =
     let a = c .before .before .before .before .before .before .before .args in
@@ -79,6 +82,7 @@ write-tables-spec =
     Inv-loop
     μ-loop
     loop-holds
+    cast-t12
     write-table-requires
     rows-length-requires
     add-from

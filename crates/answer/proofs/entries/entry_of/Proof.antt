@@ -13,13 +13,16 @@ add-steps c = search needs
 add-log : tie.Need-add-log
 add-log c = search needs
 
+cast-t15 : tie.Need-cast-t15
+cast-t15 c = search needs
+
 rows-length-requires : tie.Need-rows-length-requires
 rows-length-requires c κs =
     let a = c .before .before .before .before .before .before .args in
     (omega (arith, c .before .before .before .before .before .before .pre .tables, c .if1 .taken), small-rows (now (a .words)) (now (a .counts)) (now (a .lengths)) (a .used) (a .z) (c .before .before .before .before .before .before .pre) (a .i) (c .if1 .taken))
 
-add-t15 : tie.Need-add-t15
-add-t15 c =
+add-t17 : tie.Need-add-t17
+add-t17 c =
     let a = c .before .before .before .before .before .before .before .args in
     omega (arith, c .rows-length .ensures, small-rows (now (a .words)) (now (a .counts)) (now (a .lengths)) (a .used) (a .z) (c .before .before .before .before .before .before .before .pre) (a .i) (c .before .if1 .taken))
 
@@ -50,8 +53,8 @@ returns-3 : tie.Need-returns-3
 unfolding entryAt
 returns-3 c = rw (le-ltb _ _ (c .before .before .before .before .before .before .before .if1 .left), le-ltb _ _ (c .before .before .before .before .before .before .if2 .left), lt-ltb _ _ (c .before .before .before .before .before .if3 .taken), c .before .before .step-kind .ensures, c .before .before .before .kind-of .ensures, c .size .ensures .0, c .before .word .ensures)
 
-add-t18 : tie.Need-add-t18
-add-t18 c = search needs
+add-t20 : tie.Need-add-t20
+add-t20 c = search needs
 
 returns-4 : tie.Need-returns-4
 unfolding entryAt
@@ -63,8 +66,9 @@ entry-of-spec =
     (tie.spec
     add-steps
     add-log
+    cast-t15
     rows-length-requires
-    add-t15
+    add-t17
     returns
     returns-2
     add-kind-of
@@ -73,5 +77,5 @@ entry-of-spec =
     word-requires
     size-requires
     returns-3
-    add-t18
+    add-t20
     returns-4)

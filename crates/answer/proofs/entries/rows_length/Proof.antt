@@ -4,8 +4,8 @@ use borrow.Author.Needs.{needs}
 use Rattle.answer.proofs.entries.rows_length.Statement.{statement}
 use Rattle.answer.proofs.entries.rows_length.Tie as tie
 
-cast-size : tie.Need-cast-size
-cast-size c = search needs
+cast-t : tie.Need-cast-t
+cast-t c = search needs
 
 info-of-requires : tie.Need-info-of-requires
 info-of-requires c κs = search needs
@@ -18,7 +18,7 @@ size-requires c κs = search needs
 
 mul-result : tie.Need-mul-result
 mul-result c =
-    let h : c .before .size .result * c .before .before .before .info-of .result .width ≤ 16384 = rw (c .before .size .ensures .0, c .before .before .word .ensures, c .before .before .before .info-of .ensures) (c .before .before .before .before .before .before .pre .1) in
+    let h : c .before .size .result * c .before .before .before .info-of .result .width ≤ 16384 = rw (c .before .size .ensures .0, c .before .before .word .ensures, c .before .before .before .info-of .ensures) (c .before .before .before .before .before .before .before .pre .1) in
     omega (arith, h)
 
 returns : tie.Need-returns
@@ -26,4 +26,4 @@ returns c = rw (c .before .size .ensures .0, c .before .before .word .ensures, c
 
 pub rows-length-spec : {M : Type 1} → statement M
 rows-length-spec =
-    tie.close (tie.spec cast-size info-of-requires word-requires size-requires mul-result returns)
+    tie.close (tie.spec cast-t info-of-requires word-requires size-requires mul-result returns)

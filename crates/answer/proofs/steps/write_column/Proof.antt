@@ -22,20 +22,20 @@ room : (c : tie.Then1) → c .before .before .before .args .at + 1 + c .before .
 room c =
     let a = c .before .before .before .args in
     let p = c .before .before .before .pre in
-    let h : a .at + length (columnWords (now (a .bindings)) (a .lanes) true (a .v)) ≤ length (now (a .answer)) = rw (c .if1 .taken) at (p .3) in
-    omega (arith, h, length-known (now (a .bindings)) (a .lanes) (a .v) (p .0) (p .1) (p .2))
+    let h : a .at + length (columnWords (now (a .bindings)) (a .lanes) true (a .v .0)) ≤ length (now (a .answer)) = rw (c .if1 .taken) at (p .3) in
+    omega (arith, h, length-known (now (a .bindings)) (a .lanes) (a .v .0) (p .0) (p .1) (p .2))
+
+cast-from : tie.Need-cast-from
+cast-from c = search needs
 
 mul-from : tie.Need-mul-from
 mul-from c = search needs
-
-cast-answer : tie.Need-cast-answer
-cast-answer c = search needs
 
 mul-answer : tie.Need-mul-answer
 mul-answer c = search needs
 
 slice-write-answer : tie.Need-slice-write-answer
-slice-write-answer c = omega (arith, room c)
+slice-write-answer c = omega (arith, room (c .before))
 
 add-write : tie.Need-add-write
 add-write c = search needs
@@ -53,23 +53,23 @@ part-write-end : tie.Need-part-write-end
 part-write-end c = search needs
 
 add-write-2 : tie.Need-add-write-2
-add-write-2 c = omega (arith, room (c .before), c .before .before .before .before .good)
+add-write-2 c = omega (arith, room (c .before .before), c .before .before .before .before .before .good)
 
 write-requires : tie.Need-write-requires
 write-requires c κs =
-    let a = c .before .before .before .before .before .args in
-    let p = c .before .before .before .before .before .pre in
-    simp length-set (omega (arith, room (c .before .before), length-part (now (a .bindings)) (256 * a .v) (256 * a .v + a .lanes - 256 * a .v) (omega arith)))
+    let a = c .before .before .before .before .before .before .args in
+    let p = c .before .before .before .before .before .before .pre in
+    simp length-set (omega (arith, room (c .before .before .before), length-part (now (a .bindings)) (256 * a .v .0) (256 * a .v .0 + a .lanes - 256 * a .v .0) (omega arith)))
 
 same-length : tie.Need-same-length
 same-length c = c .before .before .write .kept .1 .1 .0 ∙ simp length-set
 
 returns : tie.Need-returns
 returns c =
-    let a = c .before .before .before .before .before .before .before .before .args in
-    let e = add-sub-cancel-left (256 * a .v) (a .lanes) in
+    let a = c .before .before .before .before .before .before .before .before .before .args in
+    let e = add-sub-cancel-left (256 * a .v .0) (a .lanes) in
     let w = c .before .before .write .ensures in
-    rw (c .before .before .before .before .before .if1 .taken) (w .0 ∙ rw e (put-cons (a .v) (part (now (a .bindings)) (256 * a .v) (a .lanes)) (now (a .answer)) (a .at)), w .1 ∙ rw e (omega arith))
+    rw (c .before .before .before .before .before .before .if1 .taken) (w .0 ∙ rw e (put-cons (a .v .0) (part (now (a .bindings)) (256 * a .v .0) (a .lanes)) (now (a .answer)) (a .at)), w .1 ∙ rw e (omega arith))
 
 returns-2 : tie.Need-returns-2
 returns-2 c = rw (c .if1 .left) (refl, omega arith)
@@ -78,8 +78,8 @@ pub write-column-spec : {M : Type 1} → statement M
 write-column-spec =
     tie.close
     (tie.spec
+    cast-from
     mul-from
-    cast-answer
     mul-answer
     slice-write-answer
     add-write

@@ -24,6 +24,9 @@ loop-holds c = (search needs, search needs, end-none _ _, put-none _ _ _)
 element-copy-out-write-column : tie.Need-element-copy-out-write-column Inv-loop μ-loop
 element-copy-out-write-column c = search needs
 
+cast-t12 : tie.Need-cast-t12 Inv-loop μ-loop
+cast-t12 c = search needs
+
 write-column-requires : tie.Need-write-column-requires Inv-loop μ-loop
 write-column-requires c κs =
     let a = c .before .before .before .before .before .before .args in
@@ -63,6 +66,7 @@ write-columns-spec =
     μ-loop
     loop-holds
     element-copy-out-write-column
+    cast-t12
     write-column-requires
     add-v
     loop-less

@@ -10,16 +10,13 @@ use Rattle.mask.proofs.Mask.end.Statement.{statement}
 use Rattle.mask.proofs.Mask.end.Tie as tie
 
 abbrev Inv-loop : tie.InvT-loop
-Inv-loop self last₀ i₀ last i = (i ≤ 256) × (last ≤ i - 1) × (last ≡ pastLast (λ k. getD (self .live) k false) i - 1)
+Inv-loop self last₀ i₀ last i = (i ≤ 256) × (last .0 ≤ i - 1) × (last .0 ≡ pastLast (λ k. getD (self .live) k false) i - 1)
 
 abbrev μ-loop : tie.MeasureT-loop
 μ-loop self last₀ i₀ last i = 256 - i
 
 loop-holds : tie.Need-loop-holds Inv-loop μ-loop
 loop-holds c = search needs
-
-cast-marked : tie.Need-cast-marked Inv-loop μ-loop
-cast-marked c = search needs
 
 element-copy-out-marked : tie.Need-element-copy-out-marked Inv-loop μ-loop
 element-copy-out-marked c = search needs
@@ -40,7 +37,7 @@ loop-again : tie.Need-loop-again Inv-loop μ-loop
 loop-again c =
     let l = c .before .before .before .before .loop in
     let m = c .before .before .before .before .before .args .t1 .live in
-    (search needs, search needs, c .later .ensures ∙ rw (c .before .marked .ensures .0) (last-turn (λ k. getD m k false) (l .i) (l .last) (l .inv .2)))
+    (search needs, search needs, c .later .ensures ∙ rw (c .before .marked .ensures .0) (last-turn (λ k. getD m k false) (l .i) (l .last .0) (l .inv .2)))
 
 cast-at : tie.Need-cast-at Inv-loop μ-loop
 cast-at c = search needs
@@ -51,20 +48,20 @@ element-copy-out-if1 c = search needs
 add-result : tie.Need-add-result Inv-loop μ-loop
 add-result c = search needs
 
-at-end : (c : tie.After-loop Inv-loop μ-loop) → cond (getD (c .before .before .args .t1 .live) (c .before .loop .last) false) (c .before .loop .last + 1) 0 ≡ end (c .before .before .args .t1 .live)
+at-end : (c : tie.After-loop Inv-loop μ-loop) → cond (getD (c .before .before .args .t1 .live) (c .before .loop .last .0) false) (c .before .loop .last .0 + 1) 0 ≡ end (c .before .before .args .t1 .live)
 unfolding end
 at-end c =
     let l = c .before .loop in
     let m = c .before .before .args .t1 .live in
     let n : length m ≡ 256 = search needs in
     let e : l .i ≡ length m = omega arith in
-    end-by m (l .last) (rw e at (l .inv .2))
+    end-by m (l .last .0) (rw e at (l .inv .2))
 
 returns : tie.Need-returns Inv-loop μ-loop
-returns c = (rw (c .if1 .taken) at (at-end (c .before .before)), search needs)
+returns c = (rw (c .if1 .taken) at (at-end (c .before .before .before)), search needs)
 
 returns-2 : tie.Need-returns-2 Inv-loop μ-loop
-returns-2 c = (rw (c .if1 .left) at (at-end (c .before .before)), search needs)
+returns-2 c = (rw (c .if1 .left) at (at-end (c .before .before .before)), search needs)
 
 pub end-spec : {M : Type 1} → statement M
 end-spec =
@@ -73,7 +70,6 @@ end-spec =
     Inv-loop
     μ-loop
     loop-holds
-    cast-marked
     element-copy-out-marked
     marked-requires
     later-requires
