@@ -1,11 +1,9 @@
-// A book of bytes: refusal 1, its words, and the first of refusals 1 to 11.
+// A book of bytes: refusal 1, and its words.
 ghost use mathlib.Core.Path.{_≡_};
 ghost use mathlib.Core.List.{_++_};
-ghost use mathlib.Core.Option.{none};
 ghost use Prim.Native.Nat.{_≤_};
 ghost use lib.ListN.{length, drop};
 ghost use Rattle.model.specs.Book.Words.{bytesRefusal, wordsOf};
-ghost use Rattle.model.specs.Outcome as outcome;
 ghost use Rattle.rules.specs.Rules.{verdictOf};
 use rules::Verdict;
 
@@ -35,27 +33,4 @@ pub fn load_words(book: &[u8], words: &mut [u32]) -> usize
     let n = book.len() / 4;
     words::load(book, &mut words[..n]);
     n
-}
-
-// The first of refusals 2 to 11 of the book's words, which are left at the front of `words`.
-fn words_refusal(book: &[u8], words: &mut [u32]) -> Verdict
-    requires { ⌜ (bytesRefusal (now book) ≡ none) × (length (now words) ≡ 16384) ⌝ }
-    ensures is { λ r. ⌜ verdictOf r ≡ outcome.wordsRefusal (wordsOf (now (book .entry))) ⌝ }
-    ensures loaded { λ _. ⌜ now (words .exit) ≡ wordsOf (now (book .entry)) ++ drop (length (wordsOf (now (book .entry)))) (now (words .entry)) ⌝ }
-{
-    let n = load_words(book, words);
-    rules::first_refusal(&words[..n])
-}
-
-// The first of refusals 1 to 11.
-pub fn first_refusal(book: &[u8]) -> Verdict
-    ensures { λ r. ⌜ verdictOf r ≡ outcome.bookRefusal (now (book .entry)) ⌝ }
-{
-    match length_refusal(book) {
-        Verdict::Pass => {
-            let mut words = [0u32; 16384];
-            words_refusal(book, &mut words)
-        }
-        Verdict::Refused(n, p) => Verdict::Refused(n, p),
-    }
 }
