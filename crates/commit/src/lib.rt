@@ -28,26 +28,26 @@ pub struct Committed {
 fn commit_table(
     words: &[u32],
     log: &[u32],
-    t: usize,
+    t: TableId,
     gone: &mut [u32],
     rows: &mut [u32],
     mut done: Committed,
     removes: bool,
 ) -> Committed
-    requires { ⌜ (t < 16) × RowsStand (now words) (infoOf (now words) t) × (length (now log) ≤ length (now gone)) × (length (now log) ≤ 16384) × (done .used ≤ length (now rows)) × (length (now rows) ≤ 16384) × (removes ≡ false → anyRemoval (now words) (now log) ≡ false) ⌝ }
-    ensures { λ r. ⌜ _≡_ {A = Left} (record { words = now (rows .exit); result = r }) (tableCommitted (now (words .entry)) (now (log .entry)) t (record { words = now (rows .entry); result = done })) ⌝ }
+    requires { ⌜ (t .0 < 16) × RowsStand (now words) (infoOf (now words) (t .0)) × (length (now log) ≤ length (now gone)) × (length (now log) ≤ 16384) × (done .used ≤ length (now rows)) × (length (now rows) ≤ 16384) × (removes ≡ false → anyRemoval (now words) (now log) ≡ false) ⌝ }
+    ensures { λ r. ⌜ _≡_ {A = Left} (record { words = now (rows .exit); result = r }) (tableCommitted (now (words .entry)) (now (log .entry)) (t .0) (record { words = now (rows .entry); result = done })) ⌝ }
 {
-    let id = TableId(t as u32);
-    let info = tables::info_of(words, id);
+    let info = tables::info_of(words, t);
     let start = Part {
         count: 0,
         used: done.used,
         from: done.used as u32,
         over: done.over,
     };
-    let old = removals::keep(words, log, id, info, gone, rows, start, removes);
-    let all = inserts::insert_rows(words, log, id, info, rows, old);
-    done.counts[t] = all.count as u32;
+    let old = removals::keep(words, log, t, info, gone, rows, start, removes);
+    let all = inserts::insert_rows(words, log, t, info, rows, old);
+    let place = words::size(t.0);
+    done.counts[place] = all.count as u32;
     done.used = all.used;
     done.over = all.over;
     done
@@ -82,7 +82,7 @@ fn commit_all(
     };
     let mut t = 0;
     while t < tables {
-        done = commit_table(words, log, t, gone, rows, done, removes);
+        done = commit_table(words, log, TableId(t as u32), gone, rows, done, removes);
         t += 1;
     }
     done

@@ -76,6 +76,7 @@ commit-all-spec =
     μ-loop
     may-remove-requires
     loop-holds
+    (λ c. search needs)
     commit-table-requires
     add-t
     loop-less

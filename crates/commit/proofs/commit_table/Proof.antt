@@ -14,25 +14,22 @@ use Rattle.commit.proofs.commit_table.Statement.{statement}
 use Rattle.commit.proofs.commit_table.Tie as tie
 
 -- what `keep` and `insert_rows` leave, by the table's info
-old-is : (c : tie.After-keep) → _≡_ {A = Rows} (record { words = c .keep .last .1 .1 .1 .1 .1 .0; part = c .keep .result }) (kept (now (c .before .before .before .before .before .before .before .before .args .words)) (now (c .before .before .before .before .before .before .before .before .args .log)) (c .before .before .before .before .before .before .before .before .args .t) (infoOf (now (c .before .before .before .before .before .before .before .before .args .words)) (c .before .before .before .before .before .before .before .before .args .t)) (infoOf (now (c .before .before .before .before .before .before .before .before .args .words)) (c .before .before .before .before .before .before .before .before .args .t) .rows) (begun (record { words = now (c .before .before .before .before .before .before .before .before .args .rows); result = c .before .before .before .before .before .before .before .before .args .t6 })))
+old-is : (c : tie.After-keep) → _≡_ {A = Rows} (record { words = c .keep .last .1 .1 .1 .1 .1 .0; part = c .keep .result }) (kept (now (c .before .before .before .before .before .before .before .before .args .words)) (now (c .before .before .before .before .before .before .before .before .args .log)) (c .before .before .before .before .before .before .before .before .args .t .0) (infoOf (now (c .before .before .before .before .before .before .before .before .args .words)) (c .before .before .before .before .before .before .before .before .args .t .0)) (infoOf (now (c .before .before .before .before .before .before .before .before .args .words)) (c .before .before .before .before .before .before .before .before .args .t .0) .rows) (begun (record { words = now (c .before .before .before .before .before .before .before .before .args .rows); result = c .before .before .before .before .before .before .before .before .args .t6 })))
 old-is c =
     let a = c .before .before .before .before .before .before .before .before .args in
-    c .keep .ensures ∙ ap (λ (i : TableInfo). kept (now (a .words)) (now (a .log)) (a .t) i (i .rows) (begun (record { words = now (a .rows); result = a .t6 }))) (c .before .before .before .info-of .ensures)
+    c .keep .ensures ∙ ap (λ (i : TableInfo). kept (now (a .words)) (now (a .log)) (a .t .0) i (i .rows) (begun (record { words = now (a .rows); result = a .t6 }))) (c .before .before .before .info-of .ensures)
 
-all-is : (c : tie.After-insert-rows) → _≡_ {A = Rows} (record { words = c .insert-rows .last .1 .1 .1 .1 .0; part = c .insert-rows .result }) (inserted (now (c .before .before .before .before .before .before .before .before .before .before .before .before .before .before .args .words)) (now (c .before .before .before .before .before .before .before .before .before .before .before .before .before .before .args .log)) (c .before .before .before .before .before .before .before .before .before .before .before .before .before .before .args .t) (infoOf (now (c .before .before .before .before .before .before .before .before .before .before .before .before .before .before .args .words)) (c .before .before .before .before .before .before .before .before .before .before .before .before .before .before .args .t)) (kept (now (c .before .before .before .before .before .before .before .before .before .before .before .before .before .before .args .words)) (now (c .before .before .before .before .before .before .before .before .before .before .before .before .before .before .args .log)) (c .before .before .before .before .before .before .before .before .before .before .before .before .before .before .args .t) (infoOf (now (c .before .before .before .before .before .before .before .before .before .before .before .before .before .before .args .words)) (c .before .before .before .before .before .before .before .before .before .before .before .before .before .before .args .t)) (infoOf (now (c .before .before .before .before .before .before .before .before .before .before .before .before .before .before .args .words)) (c .before .before .before .before .before .before .before .before .before .before .before .before .before .before .args .t) .rows) (begun (record { words = now (c .before .before .before .before .before .before .before .before .before .before .before .before .before .before .args .rows); result = c .before .before .before .before .before .before .before .before .before .before .before .before .before .before .args .t6 }))))
+all-is : (c : tie.After-insert-rows) → _≡_ {A = Rows} (record { words = c .insert-rows .last .1 .1 .1 .1 .0; part = c .insert-rows .result }) (inserted (now (c .before .before .before .before .before .before .before .before .before .before .before .before .before .before .args .words)) (now (c .before .before .before .before .before .before .before .before .before .before .before .before .before .before .args .log)) (c .before .before .before .before .before .before .before .before .before .before .before .before .before .before .args .t .0) (infoOf (now (c .before .before .before .before .before .before .before .before .before .before .before .before .before .before .args .words)) (c .before .before .before .before .before .before .before .before .before .before .before .before .before .before .args .t .0)) (kept (now (c .before .before .before .before .before .before .before .before .before .before .before .before .before .before .args .words)) (now (c .before .before .before .before .before .before .before .before .before .before .before .before .before .before .args .log)) (c .before .before .before .before .before .before .before .before .before .before .before .before .before .before .args .t .0) (infoOf (now (c .before .before .before .before .before .before .before .before .before .before .before .before .before .before .args .words)) (c .before .before .before .before .before .before .before .before .before .before .before .before .before .before .args .t .0)) (infoOf (now (c .before .before .before .before .before .before .before .before .before .before .before .before .before .before .args .words)) (c .before .before .before .before .before .before .before .before .before .before .before .before .before .before .args .t .0) .rows) (begun (record { words = now (c .before .before .before .before .before .before .before .before .before .before .before .before .before .before .args .rows); result = c .before .before .before .before .before .before .before .before .before .before .before .before .before .before .args .t6 }))))
 all-is c =
     let a = c .before .before .before .before .before .before .before .before .before .before .before .before .before .before .args in
     let o = c .before .before .before .before .before .before .keep in
-    c .insert-rows .ensures ∙ ap (λ (i : TableInfo). inserted (now (a .words)) (now (a .log)) (a .t) i (record { words = o .last .1 .1 .1 .1 .1 .0; part = o .result })) (c .before .before .before .before .before .before .before .before .before .info-of .ensures) ∙ ap (inserted (now (a .words)) (now (a .log)) (a .t) (infoOf (now (a .words)) (a .t))) (old-is (c .before .before .before .before .before .before))
-
-cast-done : tie.Need-cast-done
-cast-done c = search needs
+    c .insert-rows .ensures ∙ ap (λ (i : TableInfo). inserted (now (a .words)) (now (a .log)) (a .t .0) i (record { words = o .last .1 .1 .1 .1 .1 .0; part = o .result })) (c .before .before .before .before .before .before .before .before .before .info-of .ensures) ∙ ap (inserted (now (a .words)) (now (a .log)) (a .t .0) (infoOf (now (a .words)) (a .t .0))) (old-is (c .before .before .before .before .before .before))
 
 info-of-requires : tie.Need-info-of-requires
 info-of-requires c κs = search needs
 
-cast-done-2 : tie.Need-cast-done-2
-cast-done-2 c = omega (arith, c .before .before .before .before .before .pre .4, c .before .before .before .before .before .pre .5)
+cast-done : tie.Need-cast-done
+cast-done c = omega (arith, c .before .before .before .before .before .pre .4, c .before .before .before .before .before .pre .5)
 
 keep-requires : tie.Need-keep-requires
 keep-requires c κs =
@@ -45,20 +42,20 @@ insert-rows-requires : tie.Need-insert-rows-requires
 insert-rows-requires c κs =
     let a = c .before .before .before .before .before .before .before .before .before .before .before .before .before .args in
     let pre = c .before .before .before .before .before .before .before .before .before .before .before .before .before .pre in
-    let k = old-keeps (now (a .words)) (now (a .log)) (a .t) (record { words = now (a .rows); result = a .t6 }) (pre .1) (pre .4) in
+    let k = old-keeps (now (a .words)) (now (a .log)) (a .t .0) (record { words = now (a .rows); result = a .t6 }) (pre .1) (pre .4) in
     let e = c .before .before .before .before .before .before .before .before .info-of .ensures in (
       e,
       subst Sound (sym e) (ready-sound (pre .1)),
-      subst (λ (i : TableInfo). Stand (i .width) (record { words = c .before .before .before .before .before .keep .last .1 .1 .1 .1 .1 .0; part = c .before .before .before .before .before .keep .result })) (sym e) (subst (Stand ((infoOf (now (a .words)) (a .t)) .width)) (sym (old-is (c .before .before .before .before .before))) (k .0)),
+      subst (λ (i : TableInfo). Stand (i .width) (record { words = c .before .before .before .before .before .keep .last .1 .1 .1 .1 .1 .0; part = c .before .before .before .before .before .keep .result })) (sym e) (subst (Stand ((infoOf (now (a .words)) (a .t .0)) .width)) (sym (old-is (c .before .before .before .before .before))) (k .0)),
       omega (arith, ap (λ (s : Rows). length (s .words)) (old-is (c .before .before .before .before .before)), k .1, pre .5),
     )
 
-cast-done-3 : tie.Need-cast-done-3
-cast-done-3 c =
-    let a = c .before .before .before .before .before .before .before .before .before .before .before .before .before .before .before .before .before .args in
-    let pre = c .before .before .before .before .before .before .before .before .before .before .before .before .before .before .before .before .before .pre in
-    let k = table-keeps (now (a .words)) (now (a .log)) (a .t) (record { words = now (a .rows); result = a .t6 }) (pre .1) (pre .4) in
-    omega (arith, few-rows (pre .1 .some) (k .0), k .1, ap (λ (s : Rows). s .part .count) (all-is (c .before .before .before)), pre .5)
+cast-done-2 : tie.Need-cast-done-2
+cast-done-2 c =
+    let a = c .before .before .before .before .before .before .before .before .before .before .before .before .before .before .before .before .before .before .args in
+    let pre = c .before .before .before .before .before .before .before .before .before .before .before .before .before .before .before .before .before .before .pre in
+    let k = table-keeps (now (a .words)) (now (a .log)) (a .t .0) (record { words = now (a .rows); result = a .t6 }) (pre .1) (pre .4) in
+    omega (arith, few-rows (pre .1 .some) (k .0), k .1, ap (λ (s : Rows). s .part .count) (all-is (c .before .before .before .before)), pre .5)
 
 mul-done : tie.Need-mul-done
 mul-done c = search needs
@@ -75,19 +72,19 @@ same-length-2 c = search needs
 returns : tie.Need-returns
 unfolding tableCommitted
 returns c =
-    let a = c .before .before .before .before .before .before .before .before .before .before .before .before .before .before .before .before .before .args in
-    ap (ended (a .t) (record { words = now (a .rows); result = a .t6 })) (all-is (c .before .before .before))
+    let a = c .before .before .before .before .before .before .before .before .before .before .before .before .before .before .before .before .before .before .args in
+    rw (c .before .size .ensures .0) (ap (ended (a .t .0) (record { words = now (a .rows); result = a .t6 })) (all-is (c .before .before .before .before)))
 
 pub commit-table-spec : {M : Type 1} → statement M
 commit-table-spec =
     tie.close
     (tie.spec
-    cast-done
     info-of-requires
-    cast-done-2
+    cast-done
     keep-requires
     insert-rows-requires
-    cast-done-3
+    (λ c κs. search needs)
+    cast-done-2
     mul-done
     element-write-done
     same-length
