@@ -1,7 +1,7 @@
 -- The index stays that of the rows: a row appended has the home of its key, and values that are merged are no words of a key.
-use Prim.Native.Nat.{ℕ, _+_, _-_, _*_, _≤_, _<_}
-use mathlib.Core.Path.{_≡_, refl, sym, ap, _∙_, subst}
-use mathlib.Core.Logic.{_≢_, inl, inr}
+use Prim.Native.Nat.{ℕ, zero, suc, _+_, _-_, _*_, _≤_, _<_}
+use mathlib.Core.Path.{_≡_, refl, sym, ap, _∙_}
+use mathlib.Core.Logic.{_≢_, _⊎_, inl, inr}
 use mathlib.Core.Bool.{Bool, true, false, cond}
 use mathlib.Core.Option.{Option, none, some}
 use mathlib.Core.List.{List, _++_}
@@ -12,7 +12,7 @@ use native.Mathlib.Omega.{arith}
 use lib.Dec.{leb}
 use borrow.Author.Tests.{leb-true}
 use lib.ListN.{length, getD, take, drop, replicate, length-take, length-drop}
-use lib.Seq.{sets, sets-eq, paste, length-sets, length-paste, take-length}
+use lib.Seq.{sets, sets-eq, paste, take-length}
 use Rattle.model.specs.Basics.{found, least}
 use Rattle.model.specs.Book.Decode.{part}
 use Rattle.model.specs.Commit.{mergeWords}
@@ -24,8 +24,32 @@ use Rattle.tables.specs.Tables.{sameWords, rowAt, foundRow}
 use Rattle.tables.specs.TablesLaws.{row-within}
 use Rattle.hash_index.specs.Index.{homeOf, homeAt, homeIn, added, indexed}
 use Rattle.commit.specs.Rows.{Rows, Sound, Stand, grown, overrun, newInfo, appended, mergedAt}
-use Rattle.commit.specs.Indexed.{IndexedRows}
+use Rattle.commit.specs.Indexed.{indexFor}
 use Rattle.commit.specs.MergeLaws.{length-merge, sets-other, sets-here}
+
+-- ## None, or that of all rows
+
+module _ (i : TableInfo) (index : List ℕ) where
+  -- an index of no words is as good for any rows
+  pub none-stays : (s s′ : Rows) → length index ≡ 0 → index ≡ indexFor i s (length index) → index ≡ indexFor i s′ (length index)
+  unfolding indexFor
+  none-stays s s′ z e = e ∙ ap (indexFor i s) z ∙ sym (ap (indexFor i s′) z)
+
+  module _ (s : Rows) where
+    pub index-of : index ≡ indexFor i s (length index) → (length index ≡ 0) ⊎ (index ≡ indexed (homeIn (s .words) (newInfo i (s .part))) (s .part .count))
+    unfolding indexFor
+    index-of = by (length index) refl
+      where
+        by : (n : ℕ) → length index ≡ n → index ≡ indexFor i s n → (length index ≡ 0) ⊎ (index ≡ indexed (homeIn (s .words) (newInfo i (s .part))) (s .part .count))
+        by zero l e = inl l
+        by (suc n) l e = inr e
+
+    pub of-index : (n : ℕ) → n ≢ 0 → index ≡ indexed (homeIn (s .words) (newInfo i (s .part))) (s .part .count) → index ≡ indexFor i s n
+    unfolding indexFor
+    of-index zero l e = absurd (l refl)
+    of-index (suc n) l e = e
+
+-- ## Homes
 
 -- an index goes by the homes of its rows, and these by their keys
 same-homes : (f g : ℕ → ℕ) (n : ℕ) → ((j : ℕ) → j < n → f j ≡ g j) → indexed f n ≡ indexed g n
@@ -60,15 +84,16 @@ module _ (i : TableInfo) (ok : Sound i) (row : List ℕ) (len : length row ≡ i
           same : j ≡ r → ⊥
           same z = omega (arith, e, ap (λ (y : ℕ). y * i .width) z)
 
-  pub merge-indexed : (key index : List ℕ) (p : ℕ) → foundRow (s .words) table key ≡ At p → IndexedRows i s index → IndexedRows i (mergedAt i row p s) index
-  merge-indexed key index p e (inl z) = inl z
-  merge-indexed key index p e (inr (few, is)) =
+  pub merge-indexed : (key : List ℕ) (p : ℕ) → foundRow (s .words) table key ≡ At p → (n : ℕ) → indexFor i s n ≡ indexFor i (mergedAt i row p s) n
+  unfolding indexFor
+  merge-indexed key p e zero = refl
+  merge-indexed key p e (suc n) =
       let values = drop (i .keys) row in
       let old = part (s .words) (p + i .keys) (length values) in
       let new = mergeWords (i .merge) old values in
       let at = found-place (s .words) table key p e in
       let short : length new ≤ length row - i .keys = omega (arith, length-merge (i .merge) old values, length-take (length values) (drop (p + i .keys) (s .words)), length-drop (i .keys) row) in
-      inr (omega (arith, length-sets (s .words) (p + i .keys) new), is ∙ same-keys (s .words) (sets (s .words) (p + i .keys) new) table (s .part .count) (λ j k l m. sym (sets-other new (s .words) (p + i .keys) (rowAt table j + k) (λ x q z. apart (at .0) j k x m (omega arith) (omega (arith, at .1))))))
+      same-keys (s .words) (sets (s .words) (p + i .keys) new) table (s .part .count) (λ j k l m. sym (sets-other new (s .words) (p + i .keys) (rowAt table j + k) (λ x q z. apart (at .0) j k x m (omega arith) (omega (arith, at .1)))))
 
   -- ## Appended
 
@@ -76,14 +101,15 @@ module _ (i : TableInfo) (ok : Sound i) (row : List ℕ) (len : length row ≡ i
   longer = record { words = paste (s .words) (s .part .used) row (length row); part = grown (s .part) (length row) }
 
   -- a row that had no room
-  pub uncounted : (index : List ℕ) → appended row s .part .count ≡ s .part .count → IndexedRows i s index → IndexedRows i (appended row s) index
-  unfolding appended
-  uncounted index = by (s .part .over) (leb (s .part .used + length row) (length (s .words)))
+  pub uncounted : appended row s .part .count ≡ s .part .count → (n : ℕ) → indexFor i s n ≡ indexFor i (appended row s) n
+  unfolding appended indexFor
+  uncounted = by (s .part .over) (leb (s .part .used + length row) (length (s .words)))
     where
-      by : (b c : Bool) → cond b s (cond c longer (record { words = s .words; part = overrun (s .part) })) .part .count ≡ s .part .count → IndexedRows i s index → IndexedRows i (cond b s (cond c longer (record { words = s .words; part = overrun (s .part) }))) index
-      by true c e x = x
-      by false false e x = x
-      by false true e x = absurd (omega arith)
+      by : (b c : Bool) → cond b s (cond c longer (record { words = s .words; part = overrun (s .part) })) .part .count ≡ s .part .count → (n : ℕ) → indexFor i s n ≡ indexFor i (cond b s (cond c longer (record { words = s .words; part = overrun (s .part) }))) n
+      by true c e n = refl
+      by false false e zero = refl
+      by false false e (suc n) = refl
+      by false true e n = absurd (omega arith)
 
   -- one that had
   abbrev pub Counted : Type 0
@@ -121,7 +147,5 @@ module _ (i : TableInfo) (ok : Sound i) (row : List ℕ) (len : length row ≡ i
     unfolding indexed
     one-more index is = rw (add-one, new-home) (ap (added (s .part .count) (homeAt row 0 (i .keys))) (is ∙ old-homes))
 
-    pub append-indexed : (index : List ℕ) → length (s .words) ≤ 16384 → index ≡ indexed (homeIn (s .words) table) (s .part .count) → IndexedRows i (appended row s) (added (s .part .count) (homeAt row 0 (i .keys)) index)
-    append-indexed index few is =
-        let n = length-paste (s .words) (s .part .used) row (length row) room (omega arith) in
-        subst (λ (x : Rows). IndexedRows i x (added (s .part .count) (homeAt row 0 (i .keys)) index)) (sym (has-room counted .0)) (inr (omega arith, one-more index is))
+    pub append-indexed : (index : List ℕ) → index ≡ indexed (homeIn (s .words) table) (s .part .count) → added (s .part .count) (homeAt row 0 (i .keys)) index ≡ indexed (homeIn (appended row s .words) (newInfo i (appended row s .part))) (appended row s .part .count)
+    append-indexed index is = rw (has-room counted .0) (one-more index is)

@@ -8,7 +8,7 @@ use native.Mathlib.Numerals.{add-one}
 use native.Mathlib.Omega.{arith}
 use lib.Dec.{eqb}
 use lib.ListN.{length, getD, take, drop, length-append, length-drop}
-use lib.Seq.{paste, take-paste, take-all, take-append-le, drop-append-le, drop-at}
+use lib.Seq.{take-all, take-append-le, drop-append-le, take-at, drop-at}
 use Rattle.model.specs.Basics.{when, eqList, found, only, least}
 use Rattle.model.specs.Book.Decode.{part}
 use Rattle.model.specs.Laws.Iter.{iter-agree}
@@ -16,7 +16,8 @@ use Rattle.model.specs.Laws.Bodies.{length-part}
 use Rattle.tables.specs.declared.Found.the-variants.{At, Nothing}
 use Rattle.tables.specs.Tables.{infoOf, front, sameWords, foundRow}
 use Rattle.tables.specs.TablesLaws.{next-row, row-within}
-use Rattle.commit.specs.Walk.{endOf, removalTurn, anyRemoval, isRemoval, removeTurn, removed, Keys, withKey, gatherTurn, removedKeys, keyTable, isThere}
+use Rattle.commit.specs.Walk.{endOf, removalTurn, anyRemoval, isRemoval, removeTurn, walked, removed, Keys, withKey, gatherTurn, storeKey, storeTurn, removedKeys, laidOnto, keyTable, isThere}
+use Rattle.commit.specs.RowLaws.{paste-onto}
 use Rattle.commit.specs.WalkLaws.{end-after, removal-end, walked-both}
 
 -- ## One key more
@@ -53,12 +54,6 @@ module _ (k : ℕ) (key : List ℕ) where
         by none true = refl
         by none false = refl
 
--- as it is stored past n others
-pub key-stored : (gone log : List ℕ) (p k n : ℕ) → p + 2 + k ≤ length log → n * k + k ≤ length gone → take ((n + 1) * k) (paste gone (n * k) (part log (p + 2) k) (length (part log (p + 2) k))) ≡ take (n * k) gone ++ part log (p + 2) k
-key-stored gone log p k n h l =
-    let long = length-part log (p + 2) k h in
-    rw (next-row n k, long, take-paste gone (n * k) (part log (p + 2) k) k (omega arith) (omega arith), take-all k (part log (p + 2) k) (omega arith))
-
 -- ## All of them
 
 module _ (w log : List ℕ) (t k : ℕ) (keys : k ≡ infoOf w t .keys) where
@@ -73,11 +68,33 @@ module _ (w log : List ℕ) (t k : ℕ) (keys : k ≡ infoOf w t .keys) where
           (omega (arith, length-append (s .words) x, next-row (s .count) k), among-more k key s x whole long ∙ ap (λ (y : Bool). y || eqList x (front key k)) e)
       one p s b l (whole, e) false q = (whole, e ∙ sym (or-false b))
 
-  -- a removal has two words besides its key, and other records have two at least
-  pub gather-fits : (p : ℕ) (s : Keys) → s .count * k + 2 * s .count ≤ p → gatherTurn log t k p s .count * k + 2 * gatherTurn log t k p s .count ≤ endOf w log p
-  gather-fits p s h = by (isRemoval log t p) refl
+  -- stored one after the other in the words lent for them, they stand at the front of these
+  stored : (gone : List ℕ) → Whole k (removedKeys w log t k) × (walked (endOf w log) (length log) (storeTurn log t k) (record { words = gone; count = 0 }) ≡ laidOnto gone (removedKeys w log t k))
+  unfolding removedKeys
+  stored gone = walked-both (endOf w log) (length log) (storeTurn log t k) (gatherTurn log t k) (λ x s. Whole k s × (x ≡ laidOnto gone s)) (λ p x s l r. one p x s l r (isRemoval log t p) refl) (record { words = gone; count = 0 }) (record { words = []; count = 0 }) (omega arith, refl)
     where
-      by : (c : Bool) → isRemoval log t p ≡ c → when c (withKey (part log (p + 2) k)) s .count * k + 2 * when c (withKey (part log (p + 2) k)) s .count ≤ endOf w log p
+      one : (p : ℕ) (x s : Keys) → endOf w log p ≤ length log → Whole k s × (x ≡ laidOnto gone s) → (c : Bool) → isRemoval log t p ≡ c → Whole k (when c (withKey (part log (p + 2) k)) s) × (when c (storeKey (part log (p + 2) k) k) x ≡ laidOnto gone (when c (withKey (part log (p + 2) k)) s))
+      one p x s l (whole, e) true q =
+          let key = part log (p + 2) k in
+          let long = length-part log (p + 2) k (omega (arith, removal-end w log p t q, keys, l)) in
+          (omega (arith, length-append (s .words) key, next-row (s .count) k), rw (e, ← whole) (ap (λ (y : List ℕ). record { words = y; count = s .count + 1 }) (paste-onto gone (s .words) key)))
+      one p x s l (whole, e) false q = (whole, e)
+
+  pub stored-laid : (gone : List ℕ) → walked (endOf w log) (length log) (storeTurn log t k) (record { words = gone; count = 0 }) ≡ laidOnto gone (removedKeys w log t k)
+  stored-laid gone = stored gone .1
+
+  -- and are their front
+  pub front-keys : (gone after : List ℕ) (n : ℕ) → _≡_ {A = Keys} (record { words = after; count = n }) (laidOnto gone (removedKeys w log t k)) → _≡_ {A = Keys} (record { words = take (n * k) after; count = n }) (removedKeys w log t k)
+  front-keys gone after n e =
+      let s = removedKeys w log t k in
+      ap (λ (x : Keys). record { words = take (x .count * k) (x .words); count = x .count }) e
+      ∙ ap (λ (x : List ℕ). record { words = x; count = s .count }) (take-at (s .words) (drop (length (s .words)) gone) (s .count * k) (stored gone .0))
+
+  -- a removal has two words besides its key, and other records have two at least
+  pub store-fits : (p : ℕ) (s : Keys) → s .count * k + 2 * s .count ≤ p → storeTurn log t k p s .count * k + 2 * storeTurn log t k p s .count ≤ endOf w log p
+  store-fits p s h = by (isRemoval log t p) refl
+    where
+      by : (c : Bool) → isRemoval log t p ≡ c → when c (storeKey (part log (p + 2) k) k) s .count * k + 2 * when c (storeKey (part log (p + 2) k) k) s .count ≤ endOf w log p
       by true q = omega (arith, removal-end w log p t q, keys, next-row (s .count) k)
       by false q = omega (arith, end-after w log p)
 

@@ -10,7 +10,7 @@ use native.Mathlib.Omega.{arith}
 use lib.Dec.{leb}
 use borrow.Author.Tests.{leb-true, leb-false}
 use lib.ListN.{length, getD, take, drop, set, length-append, length-set, length-take, length-drop, take-append-drop}
-use lib.Seq.{sets, sets-eq, paste, take-at, drop-at, take-length, take-take, drop-append-add, drop-drop}
+use lib.Seq.{sets, sets-eq, paste, take-at, drop-at, take-take, drop-append-add, drop-drop}
 use Rattle.model.specs.Basics.{found, only, join, All, least}
 use Rattle.model.specs.Book.Decode.{part}
 use Rattle.model.specs.Commit.{mergeWords, hasKey, put}
@@ -21,8 +21,9 @@ use Rattle.tables.specs.declared.Found.{Found}
 use Rattle.tables.specs.declared.Found.the-variants.{At, Nothing}
 use Rattle.tables.specs.Tables.{sameWords, rowAt, foundRow}
 use Rattle.tables.specs.TablesLaws.{front-take}
-use Rattle.commit.specs.Rows.{Rows, newInfo, appended, mergedAt, putAt, putRow}
+use Rattle.commit.specs.Rows.{Rows, onto, newInfo, appended, mergedAt, putAt, putRow}
 use Rattle.commit.specs.MergeLaws.{length-merge}
+use Rattle.commit.specs.RowLaws.{length-onto, paste-onto}
 
 -- ## Rows one after the other
 
@@ -128,17 +129,7 @@ merge-mid k m row x r z p e h l =
     rw (split, part-mid head (drop k r) z (p + k) (length (drop k row)) n d)
     (sets-mid head (drop k r) z (mergeWords m (drop k r) (drop k row)) (p + k) n (length-merge m (drop k r) (drop k row)) ∙ simp append-assoc)
 
--- the words lent, with others at their front
-abbrev pub onto : List ℕ → List ℕ → List ℕ
-onto base x = x ++ drop (length x) base
-
 module _ (base : List ℕ) where
-  length-onto : (x : List ℕ) → length x ≤ length base → length (onto base x) ≡ length base
-  length-onto x h = omega (arith, length-append x (drop (length x) base), length-drop (length x) base)
-
-  paste-onto : (x row : List ℕ) → paste (onto base x) (length x) row (length row) ≡ onto base (x ++ row)
-  paste-onto x row = rw (take-at x (drop (length x) base) (length x) refl, take-length row, drop-append-add x (drop (length x) base) (length row), drop-drop (length row) (length x) base, length-append x row)
-
   -- the rows rs of a table, past the words `done` of the tables before it
   abbrev pub laid : List ℕ → List (List ℕ) → Rows
   laid done rs = record { words = onto base (done ++ join rs); part = record { from = length done; count = length rs; used = length (done ++ join rs); over = false } }
@@ -172,8 +163,8 @@ module _ (base : List ℕ) where
               → Laid done (rs ++ (row ∷ [])) (cond b (record { words = paste (onto base here) (length here) row (length row); part = record { from = length done; count = length rs + 1; used = length here + length row; over = false } }) (record { words = onto base here; part = record { from = length done; count = length rs; used = length here; over = true } }))
           by true e =
               let n : length (rs ++ (row ∷ [])) ≡ length rs + 1 = length-append rs (row ∷ []) in
-              inl (omega (arith, leb-true (length here + length row) (length (onto base here)) e, length-onto here h, length-more), rw (n, one-more, paste-onto here row, length-append here row))
-          by false e = inr (omega (arith, leb-false (length here + length row) (length (onto base here)) e, length-onto here h, length-more), refl)
+              inl (omega (arith, leb-true (length here + length row) (length (onto base here)) e, length-onto base here h, length-more), rw (n, one-more, paste-onto base here row, length-append here row))
+          by false e = inr (omega (arith, leb-false (length here + length row) (length (onto base here)) e, length-onto base here h, length-more), refl)
 
       pub append-laid : (s : Rows) → Laid done rs s → Laid done (rs ++ (row ∷ [])) (appended row s)
       append-laid s (inl (h, e)) = rw e (append-here h)

@@ -2,13 +2,13 @@
 use Prim.Native.Nat.{ℕ, _+_, _<_, _≤_}
 use mathlib.Core.Path.{_≡_, refl, sym, ap, _∙_}
 use mathlib.Core.Bool.{Bool, true, false, cond}
-use mathlib.Core.List.{List}
+use mathlib.Core.List.{List, _++_}
 use native.Mathlib.Nat.{mul-le-mul-left, mul-one}
 use native.Mathlib.Omega.{arith}
 use lib.Dec.{leb}
 use borrow.Author.Tests.{leb-true}
-use lib.ListN.{length, getD, drop, replicate}
-use lib.Seq.{paste, length-sets, length-paste}
+use lib.ListN.{length, getD, drop, replicate, length-append, length-drop}
+use lib.Seq.{paste, take-at, take-length, drop-append-add, drop-drop, length-sets, length-paste}
 use Rattle.model.specs.Basics.{eqList, found, least}
 use Rattle.model.specs.Book.Decode.{part}
 use Rattle.model.specs.Commit.{mergeWords}
@@ -18,7 +18,7 @@ use Rattle.tables.specs.declared.Found.{Found}
 use Rattle.tables.specs.declared.Found.the-variants.{At, Nothing}
 use Rattle.tables.specs.Tables.{Stands, front, sameWords, rowAt, foundRow}
 use Rattle.tables.specs.TablesLaws.{front-take, key-front, next-row}
-use Rattle.commit.specs.Rows.{Rows, Sound, Stand, grown, overrun, newInfo, appended, putAt, putRow}
+use Rattle.commit.specs.Rows.{Rows, Sound, Stand, onto, grown, overrun, newInfo, appended, putAt, putRow}
 
 -- ## A key in an array
 
@@ -29,6 +29,16 @@ found-same w t a b e = ap (λ (key : List ℕ). found (least (λ i. eqList (part
 
 pub key-found : (w : List ℕ) (t : TableInfo) (row key : List ℕ) → key ≡ filled (λ i. getD row i 0) (t .keys) (replicate 16 0) → t .keys ≤ length row → t .keys ≤ 16 → foundRow w t row ≡ foundRow w t key
 key-found w t row key e h l = found-same w t row key (front-take row (t .keys) h ∙ sym (ap (λ (x : List ℕ). front x (t .keys)) e ∙ key-front row (t .keys) h l))
+
+-- ## Words laid onto the front
+
+module _ (base x : List ℕ) where
+  pub length-onto : length x ≤ length base → length (onto base x) ≡ length base
+  length-onto h = omega (arith, length-append x (drop (length x) base), length-drop (length x) base)
+
+  -- others stored past them
+  pub paste-onto : (y : List ℕ) → paste (onto base x) (length x) y (length y) ≡ onto base (x ++ y)
+  paste-onto y = rw (take-at x (drop (length x) base) (length x) refl, take-length y, drop-append-add x (drop (length x) base) (length y), drop-drop (length y) (length x) base, length-append x y)
 
 -- ## Rows that stand
 

@@ -2,7 +2,7 @@
 use Prim.Native.Nat.{ℕ, _+_, _*_, _<_, _≤_}
 use mathlib.Core.Path.{_≡_}
 use mathlib.Core.Bool.{true, false, cond}
-use mathlib.Core.List.{List}
+use mathlib.Core.List.{List, _++_}
 use lib.Dec.{leb}
 use lib.ListN.{length, drop}
 use lib.Seq.{sets, paste}
@@ -29,6 +29,10 @@ pub record Sound (i : TableInfo) : Type 0 where
 pub record Stand (width : ℕ) (s : Rows) : Type 0 where
   pub used : s .part .used ≡ s .part .from + s .part .count * width
   pub within : s .part .used ≤ length (s .words)
+
+-- words, with others laid onto their front
+abbrev pub onto : List ℕ → List ℕ → List ℕ
+onto base x = x ++ drop (length x) base
 
 -- ## Appended
 

@@ -1,16 +1,17 @@
 -- The log is walked record by record: which rows are removed, and which are put into a table.
-use Prim.Native.Nat.{ℕ, _+_}
+use Prim.Native.Nat.{ℕ, _+_, _*_}
 use mathlib.Core.Bool.{Bool, true, false, _&&_, _||_, not, cond}
 use mathlib.Core.List.{List, [], _++_}
 use lib.Dec.{eqb, leb}
 use lib.ListN.{length, getD}
+use lib.Seq.{paste}
 use Rattle.model.specs.Basics.{iter, when, eqList}
 use Rattle.model.specs.Book.Decode.{part}
 use Rattle.tables.specs.declared.TableInfo.{TableInfo}
 use Rattle.tables.specs.declared.Found.{Found}
 use Rattle.tables.specs.declared.Found.the-variants.{At, Nothing}
 use Rattle.tables.specs.Tables.{infoOf}
-use Rattle.commit.specs.Rows.{Rows, putRow}
+use Rattle.commit.specs.Rows.{Rows, onto, putRow}
 
 -- the word past the record at p: its kind and its table, then a key if it is a removal, else a row
 unfoldable pub endOf : List ℕ → List ℕ → ℕ → ℕ
@@ -80,6 +81,21 @@ gatherTurn log t k p s = when (isRemoval log t p) (withKey (part log (p + 2) k))
 
 unfoldable pub removedKeys : List ℕ → List ℕ → ℕ → ℕ → Keys
 removedKeys w log t k = walked (endOf w log) (length log) (gatherTurn log t k) (record { words = []; count = 0 })
+
+-- the same in words that are lent for the keys: one more is stored past those that are there
+abbrev pub storeKey : List ℕ → ℕ → Keys → Keys
+storeKey key k s = record { words = paste (s .words) (s .count * k) key (length key); count = s .count + 1 }
+
+abbrev pub storeTurn : List ℕ → ℕ → ℕ → ℕ → Keys → Keys
+storeTurn log t k p s = when (isRemoval log t p) (storeKey (part log (p + 2) k) k) s
+
+-- the keys at the front of the words lent for them, the rest as it was
+abbrev pub laidOnto : List ℕ → Keys → Keys
+laidOnto gone s = record { words = onto gone (s .words); count = s .count }
+
+-- what the commit of table t leaves of these words
+abbrev pub goneAfter : List ℕ → List ℕ → ℕ → List ℕ → List ℕ
+goneAfter w log t gone = onto gone (removedKeys w log t (infoOf w t .keys) .words)
 
 -- the table whose rows are n keys of k words; whether a row was found there
 abbrev pub keyTable : ℕ → ℕ → TableInfo

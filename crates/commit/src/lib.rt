@@ -11,8 +11,9 @@ ghost use mathlib.Core.Bool.{false, _||_};
 ghost use Prim.Native.Nat.{ℕ, _<_, _≤_};
 ghost use lib.Dec.{leb};
 ghost use lib.ListN.{length};
+ghost use Rattle.model.specs.Basics.{iter};
 ghost use Rattle.tables.specs.Tables.{infoOf, RowsStand};
-ghost use Rattle.commit.specs.Walk.{anyRemoval};
+ghost use Rattle.commit.specs.Walk.{anyRemoval, goneAfter};
 ghost use Rattle.commit.specs.Commit.{Left, tableCommitted, committedRows};
 use crate::rows::Part;
 use ids::TableId;
@@ -35,7 +36,8 @@ fn commit_table(
     removes: bool,
 ) -> Committed
     requires { ⌜ (t .0 < 16) × RowsStand (now words) (infoOf (now words) (t .0)) × (length (now log) ≤ length (now gone)) × (length (now log) ≤ 16384) × (done .used ≤ length (now rows)) × (length (now rows) ≤ 16384) × (removes ≡ false → anyRemoval (now words) (now log) ≡ false) ⌝ }
-    ensures { λ r. ⌜ _≡_ {A = Left} (record { words = now (rows .exit); result = r }) (tableCommitted (now (words .entry)) (now (log .entry)) (t .0) (record { words = now (rows .entry); result = done })) ⌝ }
+    ensures rows { λ r. ⌜ _≡_ {A = Left} (record { words = now (rows .exit); result = r }) (tableCommitted (now (words .entry)) (now (log .entry)) (t .0) (record { words = now (rows .entry); result = done })) ⌝ }
+    ensures gone { λ _. ⌜ now (gone .exit) ≡ goneAfter (now (words .entry)) (now (log .entry)) (t .0) (now (gone .entry)) ⌝ }
 {
     let info = tables::info_of(words, t);
     let start = Part {
@@ -72,7 +74,8 @@ fn commit_all(
     rows: &mut [u32],
 ) -> Committed
     requires { ⌜ (tables ≤ 16) × (length (now log) ≤ 16384) × (length (now log) ≤ length (now gone)) × (length (now rows) ≤ 16384) × ((t : ℕ) → t < tables → RowsStand (now words) (infoOf (now words) t)) ⌝ }
-    ensures { λ r. ⌜ _≡_ {A = Left} (record { words = now (rows .exit); result = r }) (committedRows (now (words .entry)) tables (now (log .entry)) (now (rows .entry))) ⌝ }
+    ensures rows { λ r. ⌜ _≡_ {A = Left} (record { words = now (rows .exit); result = r }) (committedRows (now (words .entry)) tables (now (log .entry)) (now (rows .entry))) ⌝ }
+    ensures gone { λ _. ⌜ now (gone .exit) ≡ iter (goneAfter (now (words .entry)) (now (log .entry))) tables (now (gone .entry)) ⌝ }
 {
     let removes = may_remove(words, tables, log);
     let mut done = Committed {

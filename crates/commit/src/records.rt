@@ -5,7 +5,7 @@ ghost use Prim.Native.Nat.{_+_, _≤_};
 ghost use lib.ListN.{length};
 ghost use Rattle.tables.specs.Tables.{infoOf};
 ghost use Rattle.commit.specs.Rows.{Rows, Sound, Stand};
-ghost use Rattle.commit.specs.Indexed.{IndexedRows};
+ghost use Rattle.commit.specs.Indexed.{indexFor, IndexedRows};
 ghost use Rattle.commit.specs.Walk.{endOf, anyRemoval, isInsertion, insertRow, inserted};
 use crate::rows;
 use crate::rows::Part;
@@ -53,7 +53,7 @@ fn insert(
 ) -> Part
     requires { ⌜ Sound info × Stand (info .width) (record { words = now rows; part = part }) × IndexedRows info (record { words = now rows; part = part }) (now index) × (p ≤ length (now log)) × (isInsertion (now log) (t .0) p ≡ true → p + 2 + info .width ≤ length (now log)) ⌝ }
     ensures rows { λ r. ⌜ _≡_ {A = Rows} (record { words = now (rows .exit); part = r }) (insertRow (now (log .entry)) (t .0) info p (record { words = now (rows .entry); part = part })) ⌝ }
-    ensures index { λ r. ⌜ IndexedRows info (record { words = now (rows .exit); part = r }) (now (index .exit)) ⌝ }
+    ensures index { λ r. ⌜ now (index .exit) ≡ indexFor info (record { words = now (rows .exit); part = r }) (length (now (index .entry))) ⌝ }
 {
     if words::word(log, p + 1) != t.0 {
         return part;
@@ -77,7 +77,8 @@ pub fn insert_all(
     start: Part,
 ) -> Part
     requires { ⌜ (info ≡ infoOf (now words) (t .0)) × Sound info × Stand (info .width) (record { words = now rows; part = start }) × IndexedRows info (record { words = now rows; part = start }) (now index) ⌝ }
-    ensures { λ r. ⌜ _≡_ {A = Rows} (record { words = now (rows .exit); part = r }) (inserted (now (words .entry)) (now (log .entry)) (t .0) info (record { words = now (rows .entry); part = start })) ⌝ }
+    ensures rows { λ r. ⌜ _≡_ {A = Rows} (record { words = now (rows .exit); part = r }) (inserted (now (words .entry)) (now (log .entry)) (t .0) info (record { words = now (rows .entry); part = start })) ⌝ }
+    ensures index { λ r. ⌜ now (index .exit) ≡ indexFor info (record { words = now (rows .exit); part = r }) (length (now (index .entry))) ⌝ }
 {
     let mut part = start;
     let mut p = 0;

@@ -3,11 +3,11 @@ ghost use mathlib.Core.Path.{_≡_};
 ghost use mathlib.Core.Bool.{true, false, _&&_};
 ghost use Prim.Native.Nat.{_+_, _*_, _/_, _≤_};
 ghost use lib.Dec.{leb};
-ghost use lib.ListN.{length, take};
+ghost use lib.ListN.{length};
 ghost use Rattle.tables.specs.Tables.{infoOf, Stands, RowsStand};
 ghost use Rattle.hash_index.specs.Index.{IndexOf};
 ghost use Rattle.commit.specs.Rows.{Rows, Stand};
-ghost use Rattle.commit.specs.Walk.{anyRemoval, isRemoval, Keys, gatherTurn, removedKeys};
+ghost use Rattle.commit.specs.Walk.{anyRemoval, isRemoval, Keys, storeTurn, removedKeys, laidOnto, goneAfter};
 ghost use Rattle.commit.specs.Commit.{kept, spareRow, spared};
 use crate::records;
 use crate::rows;
@@ -19,7 +19,7 @@ use tables::TableInfo;
 // If the record at p is a removal of table t, its key, of k words, is put into `gone`, past the n that are there; and how many are there then.
 fn gather(log: &[u32], p: usize, t: TableId, k: usize, gone: &mut [u32], n: usize) -> usize
     requires { ⌜ (n * k + 2 * n ≤ p) × (p ≤ length (now log)) × (length (now log) ≤ length (now gone)) × (isRemoval (now log) (t .0) p ≡ true → p + 2 + k ≤ length (now log)) ⌝ }
-    ensures { λ r. ⌜ _≡_ {A = Keys} (record { words = take (r * k) (now (gone .exit)); count = r }) (gatherTurn (now (log .entry)) (t .0) k p (record { words = take (n * k) (now (gone .entry)); count = n })) ⌝ }
+    ensures { λ r. ⌜ _≡_ {A = Keys} (record { words = now (gone .exit); count = r }) (storeTurn (now (log .entry)) (t .0) k p (record { words = now (gone .entry); count = n })) ⌝ }
 {
     if words::word(log, p + 1) != t.0 {
         return n;
@@ -36,7 +36,7 @@ fn gather(log: &[u32], p: usize, t: TableId, k: usize, gone: &mut [u32], n: usiz
 // The same for all records, in the log's order. A removal has two words besides its key, so there is room for the keys where there is for the log.
 fn gather_all(words: &[u32], log: &[u32], t: TableId, k: usize, gone: &mut [u32]) -> usize
     requires { ⌜ (k ≡ infoOf (now words) (t .0) .keys) × (length (now log) ≤ length (now gone)) ⌝ }
-    ensures { λ r. ⌜ (r * k + 2 * r ≤ length (now (log .entry))) × (_≡_ {A = Keys} (record { words = take (r * k) (now (gone .exit)); count = r }) (removedKeys (now (words .entry)) (now (log .entry)) (t .0) k)) ⌝ }
+    ensures { λ r. ⌜ (r * k + 2 * r ≤ length (now (log .entry))) × (_≡_ {A = Keys} (record { words = now (gone .exit); count = r }) (laidOnto (now (gone .entry)) (removedKeys (now (words .entry)) (now (log .entry)) (t .0) k))) ⌝ }
 {
     let mut n = 0;
     let mut p = 0;
@@ -59,7 +59,7 @@ fn gather_if(
     removes: bool,
 ) -> usize
     requires { ⌜ (k ≡ infoOf (now words) (t .0) .keys) × (length (now log) ≤ length (now gone)) × (removes ≡ false → anyRemoval (now words) (now log) ≡ false) ⌝ }
-    ensures { λ r. ⌜ (r * k + 2 * r ≤ length (now (log .entry))) × (_≡_ {A = Keys} (record { words = take (r * k) (now (gone .exit)); count = r }) (removedKeys (now (words .entry)) (now (log .entry)) (t .0) k)) ⌝ }
+    ensures { λ r. ⌜ (r * k + 2 * r ≤ length (now (log .entry))) × (_≡_ {A = Keys} (record { words = now (gone .exit); count = r }) (laidOnto (now (gone .entry)) (removedKeys (now (words .entry)) (now (log .entry)) (t .0) k))) ⌝ }
 {
     if removes {
         return gather_all(words, log, t, k, gone);
@@ -152,7 +152,8 @@ pub fn keep(
     removes: bool,
 ) -> Part
     requires { ⌜ (info ≡ infoOf (now words) (t .0)) × RowsStand (now words) info × (length (now log) ≤ length (now gone)) × (length (now log) ≤ 16384) × Stand (info .width) (record { words = now rows; part = start }) × (removes ≡ false → anyRemoval (now words) (now log) ≡ false) ⌝ }
-    ensures { λ r. ⌜ _≡_ {A = Rows} (record { words = now (rows .exit); part = r }) (kept (now (words .entry)) (now (log .entry)) (t .0) info (info .rows) (record { words = now (rows .entry); part = start })) ⌝ }
+    ensures rows { λ r. ⌜ _≡_ {A = Rows} (record { words = now (rows .exit); part = r }) (kept (now (words .entry)) (now (log .entry)) (t .0) info (info .rows) (record { words = now (rows .entry); part = start })) ⌝ }
+    ensures gone { λ _. ⌜ now (gone .exit) ≡ goneAfter (now (words .entry)) (now (log .entry)) (t .0) (now (gone .entry)) ⌝ }
 {
     let n = gather_if(words, log, t, info.keys, gone, removes);
     let end = n * info.keys;

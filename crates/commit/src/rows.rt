@@ -4,7 +4,7 @@ ghost use Prim.Native.Nat.{_≤_};
 ghost use lib.ListN.{length};
 ghost use Rattle.tables.specs.Tables.{foundRow};
 ghost use Rattle.commit.specs.Rows.{Rows, Sound, Stand, newInfo, appended, putRow};
-ghost use Rattle.commit.specs.Indexed.{IndexedRows};
+ghost use Rattle.commit.specs.Indexed.{indexFor, IndexedRows};
 use crate::merge;
 use tables::Found;
 use tables::TableInfo;
@@ -76,7 +76,7 @@ fn append_noted(
 ) -> Part
     requires { ⌜ Sound info × Stand (info .width) (record { words = now rows; part = part }) × IndexedRows info (record { words = now rows; part = part }) (now index) × (length (now row) ≡ info .width) ⌝ }
     ensures rows { λ r. ⌜ _≡_ {A = Rows} (record { words = now (rows .exit); part = r }) (appended (now (row .entry)) (record { words = now (rows .entry); part = part })) ⌝ }
-    ensures index { λ r. ⌜ IndexedRows info (record { words = now (rows .exit); part = r }) (now (index .exit)) ⌝ }
+    ensures index { λ r. ⌜ now (index .exit) ≡ indexFor info (record { words = now (rows .exit); part = r }) (length (now (index .entry))) ⌝ }
 {
     let longer = append(rows, part, row);
     if index.len() == 0 {
@@ -93,7 +93,7 @@ fn append_noted(
 pub fn put(rows: &mut [u32], index: &mut [u32], part: Part, info: TableInfo, row: &[u32]) -> Part
     requires { ⌜ Sound info × Stand (info .width) (record { words = now rows; part = part }) × IndexedRows info (record { words = now rows; part = part }) (now index) × (length (now row) ≡ info .width) ⌝ }
     ensures rows { λ r. ⌜ _≡_ {A = Rows} (record { words = now (rows .exit); part = r }) (putRow info (now (row .entry)) (record { words = now (rows .entry); part = part })) ⌝ }
-    ensures index { λ r. ⌜ IndexedRows info (record { words = now (rows .exit); part = r }) (now (index .exit)) ⌝ }
+    ensures index { λ r. ⌜ now (index .exit) ≡ indexFor info (record { words = now (rows .exit); part = r }) (length (now (index .entry))) ⌝ }
 {
     let k = info.keys;
     let key = tables::key_of(row, k);

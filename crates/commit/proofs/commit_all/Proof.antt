@@ -7,7 +7,7 @@ use lib.Dec.{leb}
 use lib.ListN.{length, replicate}
 use Rattle.model.specs.Basics.{iter}
 use Rattle.model.specs.Laws.Iter.{iter-more}
-use Rattle.commit.specs.Walk.{anyRemoval}
+use Rattle.commit.specs.Walk.{anyRemoval, goneAfter}
 use Rattle.commit.specs.Commit.{Left, tableCommitted, committedRows}
 use Rattle.commit.specs.KeyLaws.{or-right-false}
 use Rattle.commit.specs.TableLaws.{table-fits}
@@ -19,6 +19,7 @@ abbrev Inv-loop : tie.InvT-loop
 Inv-loop words tables log gone₀ rows₀ removes done₀ t₀ gone rows done t =
     (t ≤ tables) × (length gone ≡ length gone₀) × (length rows ≡ length rows₀) × (done .used ≤ length rows₀)
     × (_≡_ {A = Left} (record { words = rows; result = done }) (iter (tableCommitted words log) t (record { words = rows₀; result = record { counts = replicate 16 0; used = 0; over = false } })))
+    × (gone ≡ iter (goneAfter words log) t gone₀)
 
 abbrev μ-loop : tie.MeasureT-loop
 μ-loop words tables log gone₀ rows₀ removes done₀ t₀ gone rows done t = tables - t
@@ -27,7 +28,7 @@ may-remove-requires : tie.Need-may-remove-requires Inv-loop μ-loop
 may-remove-requires c κs = search needs
 
 loop-holds : tie.Need-loop-holds Inv-loop μ-loop
-loop-holds c = (search needs, search needs, refl, omega arith, refl)
+loop-holds c = (search needs, search needs, refl, omega arith, refl, refl)
 
 commit-table-requires : tie.Need-commit-table-requires Inv-loop μ-loop
 commit-table-requires c κs =
@@ -46,13 +47,14 @@ loop-again : tie.Need-loop-again Inv-loop μ-loop
 loop-again c =
     let a = c .before .before .before .before .before .before .before .before .before .before .before .before .before .before .args in
     let l = c .before .before .before .before .before .before .before .before .loop in
-    let r = c .before .before .before .before .commit-table .ensures in
+    let r = c .before .before .before .before .commit-table .ensures .0 in
     let f = table-fits (now (a .words)) (now (a .log)) (l .t) (record { words = l .rows; result = l .done }) (c .before .before .before .before .before .before .before .before .before .before .before .before .before .before .pre .4 (l .t) (c .before .before .before .before .before .before .before .loop-test .taken)) (omega (arith, l .inv .2, l .inv .3)) in (
       search needs,
       c .before .before .before .before .commit-table .kept .1 .1 .1 .0 ∙ l .inv .1,
       ap (λ (x : Left). length (x .words)) r ∙ f .0 ∙ l .inv .2,
       omega (arith, ap (λ (x : Left). x .result .used) r, f .1, l .inv .2),
       iter-more (tableCommitted (now (a .words)) (now (a .log))) (l .t) (record { words = now (a .rows); result = record { counts = replicate 16 0; used = 0; over = false } }) (record { words = l .rows; result = l .done }) _ (l .inv .4) r,
+      iter-more (goneAfter (now (a .words)) (now (a .log))) (l .t) (now (a .gone)) (l .gone) _ (l .inv .5) (c .before .before .before .before .commit-table .ensures .1),
     )
 
 same-length : tie.Need-same-length Inv-loop μ-loop
@@ -66,7 +68,7 @@ unfolding committedRows
 returns c =
     let l = c .before .loop in
     let e : l .t ≡ c .before .before .before .before .before .before .before .args .tables = omega arith in
-    rw e at (l .inv .4)
+    (rw e at (l .inv .4), rw e at (l .inv .5))
 
 pub commit-all-spec : {M : Type 1} → statement M
 commit-all-spec =

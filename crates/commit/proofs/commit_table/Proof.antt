@@ -17,7 +17,7 @@ use Rattle.commit.proofs.commit_table.Tie as tie
 old-is : (c : tie.After-keep) → _≡_ {A = Rows} (record { words = c .keep .last .1 .1 .1 .1 .1 .0; part = c .keep .result }) (kept (now (c .before .before .before .before .before .before .before .before .args .words)) (now (c .before .before .before .before .before .before .before .before .args .log)) (c .before .before .before .before .before .before .before .before .args .t .0) (infoOf (now (c .before .before .before .before .before .before .before .before .args .words)) (c .before .before .before .before .before .before .before .before .args .t .0)) (infoOf (now (c .before .before .before .before .before .before .before .before .args .words)) (c .before .before .before .before .before .before .before .before .args .t .0) .rows) (begun (record { words = now (c .before .before .before .before .before .before .before .before .args .rows); result = c .before .before .before .before .before .before .before .before .args .t6 })))
 old-is c =
     let a = c .before .before .before .before .before .before .before .before .args in
-    c .keep .ensures ∙ ap (λ (i : TableInfo). kept (now (a .words)) (now (a .log)) (a .t .0) i (i .rows) (begun (record { words = now (a .rows); result = a .t6 }))) (c .before .before .before .info-of .ensures)
+    c .keep .ensures .0 ∙ ap (λ (i : TableInfo). kept (now (a .words)) (now (a .log)) (a .t .0) i (i .rows) (begun (record { words = now (a .rows); result = a .t6 }))) (c .before .before .before .info-of .ensures)
 
 all-is : (c : tie.After-insert-rows) → _≡_ {A = Rows} (record { words = c .insert-rows .last .1 .1 .1 .1 .0; part = c .insert-rows .result }) (inserted (now (c .before .before .before .before .before .before .before .before .before .before .before .before .before .before .args .words)) (now (c .before .before .before .before .before .before .before .before .before .before .before .before .before .before .args .log)) (c .before .before .before .before .before .before .before .before .before .before .before .before .before .before .args .t .0) (infoOf (now (c .before .before .before .before .before .before .before .before .before .before .before .before .before .before .args .words)) (c .before .before .before .before .before .before .before .before .before .before .before .before .before .before .args .t .0)) (kept (now (c .before .before .before .before .before .before .before .before .before .before .before .before .before .before .args .words)) (now (c .before .before .before .before .before .before .before .before .before .before .before .before .before .before .args .log)) (c .before .before .before .before .before .before .before .before .before .before .before .before .before .before .args .t .0) (infoOf (now (c .before .before .before .before .before .before .before .before .before .before .before .before .before .before .args .words)) (c .before .before .before .before .before .before .before .before .before .before .before .before .before .before .args .t .0)) (infoOf (now (c .before .before .before .before .before .before .before .before .before .before .before .before .before .before .args .words)) (c .before .before .before .before .before .before .before .before .before .before .before .before .before .before .args .t .0) .rows) (begun (record { words = now (c .before .before .before .before .before .before .before .before .before .before .before .before .before .before .args .rows); result = c .before .before .before .before .before .before .before .before .before .before .before .before .before .before .args .t6 }))))
 all-is c =
@@ -73,7 +73,7 @@ returns : tie.Need-returns
 unfolding tableCommitted
 returns c =
     let a = c .before .before .before .before .before .before .before .before .before .before .before .before .before .before .before .before .before .before .args in
-    rw (c .before .size .ensures .0) (ap (ended (a .t .0) (record { words = now (a .rows); result = a .t6 })) (all-is (c .before .before .before .before)))
+    (rw (c .before .size .ensures .0) (ap (ended (a .t .0) (record { words = now (a .rows); result = a .t6 })) (all-is (c .before .before .before .before))), c .before .before .before .before .before .before .before .before .before .before .keep .ensures .1)
 
 pub commit-table-spec : {M : Type 1} → statement M
 commit-table-spec =

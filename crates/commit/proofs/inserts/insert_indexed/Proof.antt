@@ -1,11 +1,12 @@
-use mathlib.Core.Path.{refl, sym, ap, _∙_, subst}
-use mathlib.Core.Logic.{inr}
+use mathlib.Core.Path.{_≡_, refl, sym, ap, _∙_, subst}
+use lib.ListN.{length}
 use native.Mathlib.Omega.{arith}
 use denote.Ref.{now}
 use Rattle.tables.specs.declared.TableInfo.{TableInfo}
 use Rattle.tables.specs.Tables.{Stands}
 use Rattle.hash_index.specs.Index.{homeIn, indexed}
 use Rattle.commit.specs.RowLaws.{few-rows, new-stands}
+use Rattle.commit.specs.IndexedLaws.{of-index}
 use borrow.Author.Needs.{needs}
 use Rattle.commit.proofs.inserts.insert_indexed.Statement.{statement}
 use Rattle.commit.proofs.inserts.insert_indexed.Tie as tie
@@ -30,7 +31,9 @@ insert-all-requires : tie.Need-insert-all-requires
 insert-all-requires c κs =
     let a = c .before .before .before .before .before .before .before .before .before .before .args in
     let p = c .before .before .before .before .before .before .before .before .before .before .pre in
-    (p .0, p .1, p .2, inr (p .3, c .before .before .before .build .ensures ∙ ap (λ (t : TableInfo). indexed (homeIn (now (a .rows)) t) (t .rows)) (c .before .before .before .before .before .table-of .ensures)))
+    let b = c .before .before .before .build in
+    let l : length (b .last .1 .1 .0) ≡ 18432 = b .kept .1 .1 .0 in
+    (p .0, p .1, p .2, record { few = p .3; is = of-index (a .info) (b .last .1 .1 .0) _ (length (b .last .1 .1 .0)) (λ z. omega arith) (b .ensures ∙ ap (λ (t : TableInfo). indexed (homeIn (now (a .rows)) t) (t .rows)) (c .before .before .before .before .before .table-of .ensures)) })
 
 same-length : tie.Need-same-length
 same-length c = search needs

@@ -1,5 +1,5 @@
 use mathlib.Core.Path.{refl}
-use mathlib.Core.Logic.{inl}
+use Rattle.commit.specs.Indexed.{indexFor}
 use borrow.Author.Needs.{needs}
 use Rattle.commit.proofs.inserts.insert_rows.Statement.{statement}
 use Rattle.commit.proofs.inserts.insert_rows.Tie as tie
@@ -20,7 +20,8 @@ slice-aggregate-insert-all : tie.Need-slice-aggregate-insert-all
 slice-aggregate-insert-all c = search needs
 
 insert-all-requires : tie.Need-insert-all-requires
-insert-all-requires c κs = let p = c .before .before .before .before .before .before .before .pre in (p .0, p .1, p .2, inl refl)
+unfolding indexFor
+insert-all-requires c κs = let p = c .before .before .before .before .before .before .before .pre in (p .0, p .1, p .2, record { few = p .3; is = refl })
 
 same-length-2 : tie.Need-same-length-2
 same-length-2 c = search needs

@@ -19,14 +19,14 @@ word-requires c κs = search needs
 
 returns : tie.Need-returns
 unfolding insertRow
-returns c = (rw (← c .before .before .word .ensures, ne-eqb _ _ (c .if1 .taken)), c .before .before .before .before .before .before .pre .2)
+returns c = (rw (← c .before .before .word .ensures, ne-eqb _ _ (c .if1 .taken)), c .before .before .before .before .before .before .pre .2 .is)
 
 word-requires-2 : tie.Need-word-requires-2
 word-requires-2 c κs = search needs
 
 returns-2 : tie.Need-returns-2
 unfolding insertRow
-returns-2 c = (rw (← c .before .before .before .before .word .ensures, eq-eqb _ _ (c .before .before .if1 .left), ← c .before .word2 .ensures, eq-eqb _ _ (c .if2 .taken)), c .before .before .before .before .before .before .before .before .pre .2)
+returns-2 c = (rw (← c .before .before .before .before .word .ensures, eq-eqb _ _ (c .before .before .if1 .left), ← c .before .word2 .ensures, eq-eqb _ _ (c .if2 .taken)), c .before .before .before .before .before .before .before .before .pre .2 .is)
 
 add-from : tie.Need-add-from
 add-from c = search needs

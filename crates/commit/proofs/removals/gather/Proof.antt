@@ -7,7 +7,6 @@ use borrow.Author.Tests.{eq-eqb, ne-eqb}
 use lib.ListN.{length, take, drop, length-take}
 use lib.Seq.{paste}
 use denote.Ref.{now}
-use Rattle.commit.specs.KeyLaws.{key-stored}
 use borrow.Author.Needs.{needs}
 use Rattle.commit.proofs.removals.gather.Statement.{statement}
 use Rattle.commit.proofs.removals.gather.Tie as tie
@@ -65,7 +64,7 @@ returns-3 : tie.Need-returns-3
 returns-3 c =
     let a = c .before .before .before .before .before .before .before .before .before .before .before .before .args in
     rw (← c .before .before .before .before .before .before .before .before .before .word .ensures, eq-eqb _ _ (c .before .before .before .before .before .before .before .if1 .left), ← c .before .before .before .before .before .before .word2 .ensures, eq-eqb _ _ (c .before .before .before .before .before .if2 .left))
-    (ap (λ (x : List ℕ). record { words = x; count = a .n + 1 }) (ap (take ((a .n + 1) * a .k)) (c .before .before .copy .ensures ∙ ap (λ (m : ℕ). paste (now (a .gone)) (a .n * a .k) (take m (drop (a .p + 2) (now (a .log)))) (length (take m (drop (a .p + 2) (now (a .log)))))) (add-sub-cancel-left (a .p + 2) (a .k))) ∙ key-stored (now (a .gone)) (now (a .log)) (a .p) (a .k) (a .n) (ends (c .before .before .before .before .before)) (omega (arith, ends (c .before .before .before .before .before), c .before .before .before .before .before .before .before .before .before .before .before .before .pre))))
+    (ap (λ (x : List ℕ). record { words = x; count = a .n + 1 }) (c .before .before .copy .ensures ∙ ap (λ (m : ℕ). paste (now (a .gone)) (a .n * a .k) (take m (drop (a .p + 2) (now (a .log)))) (length (take m (drop (a .p + 2) (now (a .log)))))) (add-sub-cancel-left (a .p + 2) (a .k))))
 
 pub gather-spec : {M : Type 1} → statement M
 gather-spec =

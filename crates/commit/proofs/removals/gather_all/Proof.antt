@@ -1,12 +1,11 @@
 use Prim.Native.Nat.{_+_, _*_, _-_, _≤_}
 use mathlib.Core.Path.{_≡_, refl, ap, _∙_}
-use mathlib.Core.List.{[]}
 use native.Mathlib.Omega.{arith}
-use lib.ListN.{length, take}
+use lib.ListN.{length}
 use denote.Ref.{now}
-use Rattle.commit.specs.Walk.{endOf, Keys, gatherTurn, removedKeys}
+use Rattle.commit.specs.Walk.{endOf, Keys, storeTurn}
 use Rattle.commit.specs.WalkLaws.{Reached, reached-none, reached-more, reached-end, end-after, removal-end}
-use Rattle.commit.specs.KeyLaws.{gather-fits}
+use Rattle.commit.specs.KeyLaws.{stored-laid, store-fits}
 use borrow.Author.Needs.{needs}
 use Rattle.commit.proofs.removals.gather_all.Statement.{statement}
 use Rattle.commit.proofs.removals.gather_all.Tie as tie
@@ -14,7 +13,7 @@ use Rattle.commit.proofs.removals.gather_all.Tie as tie
 abbrev Inv-loop : tie.InvT-loop
 Inv-loop words log t k gone₀ n₀ p₀ end₀ gone n p end =
     (end ≡ endOf words log p) × (length gone ≡ length gone₀) × (n * k + 2 * n ≤ p)
-    × Reached (endOf words log) (length log) (gatherTurn log (t .0) k) (record { words = []; count = 0 }) p (record { words = take (n * k) gone; count = n })
+    × Reached (endOf words log) (length log) (storeTurn log (t .0) k) (record { words = gone₀; count = 0 }) p (record { words = gone; count = n })
 
 abbrev μ-loop : tie.MeasureT-loop
 μ-loop words log t k gone₀ n₀ p₀ end₀ gone n p end = length log - p
@@ -24,8 +23,7 @@ end-of-requires c κs = search needs
 
 loop-holds : tie.Need-loop-holds Inv-loop μ-loop
 loop-holds c =
-    let z : 0 * c .before .before .before .before .args .k ≡ 0 = omega arith in
-    (c .end-of .ensures, refl, omega arith, rw z (reached-none _ _ _ _))
+    (c .end-of .ensures, refl, omega arith, reached-none _ _ _ _)
 
 gather-requires : tie.Need-gather-requires Inv-loop μ-loop
 gather-requires c κs =
@@ -47,23 +45,22 @@ loop-again : tie.Need-loop-again Inv-loop μ-loop
 loop-again c =
     let a = c .before .before .before .before .before .before .before .before .before .before .before .args in
     let l = c .before .before .before .before .before .before .loop in
-    let s : Keys = record { words = take (l .n * a .k) (l .gone); count = l .n } in
+    let s : Keys = record { words = l .gone; count = l .n } in
     let r = c .before .before .before .gather in (
       c .end-of2 .ensures,
       r .kept .1 .1 .1 .1 .0 ∙ l .inv .1,
-      omega (arith, gather-fits (now (a .words)) (now (a .log)) (a .t .0) (a .k) (c .before .before .before .before .before .before .before .before .before .before .before .pre .0) (l .p) s (l .inv .2), ap (λ (x : Keys). x .count * a .k + 2 * x .count) (r .ensures), l .inv .0),
-      reached-more (endOf (now (a .words)) (now (a .log))) (length (now (a .log))) (gatherTurn (now (a .log)) (a .t .0) (a .k)) (record { words = []; count = 0 }) (l .inv .3) (l .inv .0) (omega (arith, end-after (now (a .words)) (now (a .log)) (l .p), l .inv .0)) (c .before .before .before .before .before .loop-test .taken) (r .ensures),
+      omega (arith, store-fits (now (a .words)) (now (a .log)) (a .t .0) (a .k) (c .before .before .before .before .before .before .before .before .before .before .before .pre .0) (l .p) s (l .inv .2), ap (λ (x : Keys). x .count * a .k + 2 * x .count) (r .ensures), l .inv .0),
+      reached-more (endOf (now (a .words)) (now (a .log))) (length (now (a .log))) (storeTurn (now (a .log)) (a .t .0) (a .k)) (record { words = now (a .gone); count = 0 }) (l .inv .3) (l .inv .0) (omega (arith, end-after (now (a .words)) (now (a .log)) (l .p), l .inv .0)) (c .before .before .before .before .before .loop-test .taken) (r .ensures),
     )
 
 same-length : tie.Need-same-length Inv-loop μ-loop
 same-length c = search needs
 
 returns : tie.Need-returns Inv-loop μ-loop
-unfolding removedKeys
 returns c =
     let a = c .before .before .before .before .before .before .args in
     let l = c .before .loop in
-    (omega (arith, l .inv .2, l .inv .3 .within), reached-end (endOf (now (a .words)) (now (a .log))) (length (now (a .log))) (gatherTurn (now (a .log)) (a .t .0) (a .k)) (record { words = []; count = 0 }) (l .inv .3) (l .inv .0) (c .loop-test .left))
+    (omega (arith, l .inv .2, l .inv .3 .within), reached-end (endOf (now (a .words)) (now (a .log))) (length (now (a .log))) (storeTurn (now (a .log)) (a .t .0) (a .k)) (record { words = now (a .gone); count = 0 }) (l .inv .3) (l .inv .0) (c .loop-test .left) ∙ stored-laid (now (a .words)) (now (a .log)) (a .t .0) (a .k) (c .before .before .before .before .before .before .pre .0) (now (a .gone)))
 
 pub gather-all-spec : {M : Type 1} → statement M
 gather-all-spec =

@@ -1,7 +1,7 @@
-use mathlib.Core.Path.{_≡_}
+use mathlib.Core.Path.{ap}
 use native.Mathlib.Omega.{arith}
-use Prim.Native.Nat.{_*_}
 use denote.Ref.{now}
+use Rattle.commit.specs.Walk.{laidOnto}
 use Rattle.commit.specs.KeyLaws.{none-gathered}
 use borrow.Author.Needs.{needs}
 use Rattle.commit.proofs.removals.gather_if.Statement.{statement}
@@ -19,8 +19,7 @@ returns c = search needs
 returns-2 : tie.Need-returns-2
 returns-2 c =
     let a = c .before .before .before .before .args in
-    let z : 0 * a .k ≡ 0 = omega arith in
-    rw z (omega arith, none-gathered (now (a .words)) (now (a .log)) (a .t .0) (a .k) (c .before .before .before .before .pre .2 (c .if1 .left)))
+    (omega arith, ap (laidOnto (now (a .gone))) (none-gathered (now (a .words)) (now (a .log)) (a .t .0) (a .k) (c .before .before .before .before .pre .2 (c .if1 .left))))
 
 pub gather-if-spec : {M : Type 1} → statement M
 gather-if-spec = tie.close (tie.spec gather-all-requires same-length returns returns-2)

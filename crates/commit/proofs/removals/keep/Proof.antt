@@ -7,9 +7,10 @@ use lib.Seq.{length-take-le}
 use denote.Ref.{now}
 use Rattle.tables.specs.declared.TableInfo.{TableInfo}
 use Rattle.tables.specs.Tables.{Stands}
-use Rattle.commit.specs.Rows.{Rows}
-use Rattle.commit.specs.Walk.{Keys, keyTable}
+use Rattle.commit.specs.Rows.{Rows, onto}
+use Rattle.commit.specs.Walk.{Keys, keyTable, removedKeys, goneAfter}
 use Rattle.commit.specs.Commit.{kept, spared}
+use Rattle.commit.specs.KeyLaws.{front-keys}
 use Rattle.commit.specs.TableLaws.{spared-kept}
 use borrow.Author.Needs.{needs}
 use Rattle.commit.proofs.removals.keep.Statement.{statement}
@@ -26,8 +27,14 @@ stand c = record { rows = omega (arith, length-take-le (c .gather-if .result * c
 rows-kept : (c : tie.After-gather-if) (s : Rows) → spared (take (c .gather-if .result * c .before .before .before .before .before .before .args .info .keys) (c .gather-if .last .1 .1 .1 .1 .0)) (keyTable (c .before .before .before .before .before .before .args .info .keys) (c .gather-if .result)) (now (c .before .before .before .before .before .before .args .words)) (c .before .before .before .before .before .before .args .info .at) (c .before .before .before .before .before .before .args .info .width) (c .before .before .before .before .before .before .args .info .rows) s ≡ kept (now (c .before .before .before .before .before .before .args .words)) (now (c .before .before .before .before .before .before .args .log)) (c .before .before .before .before .before .before .args .t .0) (c .before .before .before .before .before .before .args .info) (c .before .before .before .before .before .before .args .info .rows) s
 rows-kept c s =
     let a = c .before .before .before .before .before .before .args in
-    ap (λ (x : Keys). spared (x .words) (keyTable (a .info .keys) (x .count)) (now (a .words)) (a .info .at) (a .info .width) (a .info .rows) s) (c .gather-if .ensures .1)
+    ap (λ (x : Keys). spared (x .words) (keyTable (a .info .keys) (x .count)) (now (a .words)) (a .info .at) (a .info .width) (a .info .rows) s) (front-keys (now (a .words)) (now (a .log)) (a .t .0) (a .info .keys) (ap (λ (i : TableInfo). i .keys) (c .before .before .before .before .before .before .pre .0)) (now (a .gone)) _ (c .gather-if .result) (c .gather-if .ensures .1))
     ∙ spared-kept (now (a .words)) (now (a .log)) (a .t .0) (a .info) s (c .before .before .before .before .before .before .pre .0) (c .before .before .before .before .before .before .pre .1)
+
+-- what is left of the words lent for them
+gone-is : (c : tie.After-gather-if) → c .gather-if .last .1 .1 .1 .1 .0 ≡ goneAfter (now (c .before .before .before .before .before .before .args .words)) (now (c .before .before .before .before .before .before .args .log)) (c .before .before .before .before .before .before .args .t .0) (now (c .before .before .before .before .before .before .args .gone))
+gone-is c =
+    let a = c .before .before .before .before .before .before .args in
+    ap (λ (x : Keys). x .words) (c .gather-if .ensures .1) ∙ ap (λ (i : TableInfo). onto (now (a .gone)) (removedKeys (now (a .words)) (now (a .log)) (a .t .0) (i .keys) .words)) (c .before .before .before .before .before .before .pre .0)
 
 gather-if-requires : tie.Need-gather-if-requires
 gather-if-requires c κs = let p = c .before .before .before .before .before .pre in (ap (λ (i : TableInfo). i .keys) (p .0), p .2, p .5)
@@ -54,7 +61,7 @@ same-length-2 : tie.Need-same-length-2
 same-length-2 c = search needs
 
 returns : tie.Need-returns
-returns c = c .before .before .keep-indexed .ensures ∙ rows-kept (c .before .before .before .before .before .before .before .before .before .before) _
+returns c = (c .before .before .keep-indexed .ensures ∙ rows-kept (c .before .before .before .before .before .before .before .before .before .before) _, gone-is (c .before .before .before .before .before .before .before .before .before .before))
 
 slice-reshare-prefix-keep-all : tie.Need-slice-reshare-prefix-keep-all
 slice-reshare-prefix-keep-all c = fits (c .before .before .before .before .before)
@@ -75,7 +82,7 @@ same-length-4 : tie.Need-same-length-4
 same-length-4 c = search needs
 
 returns-2 : tie.Need-returns-2
-returns-2 c = c .before .before .keep-all .ensures ∙ rows-kept (c .before .before .before .before .before .before .before .before .before .before .before) _
+returns-2 c = (c .before .before .keep-all .ensures ∙ rows-kept (c .before .before .before .before .before .before .before .before .before .before .before) _, gone-is (c .before .before .before .before .before .before .before .before .before .before .before))
 
 pub keep-spec : {M : Type 1} → statement M
 keep-spec =

@@ -7,6 +7,7 @@ use Rattle.tables.specs.declared.TableInfo.{TableInfo}
 use Rattle.tables.specs.Tables.{Stands, foundRow}
 use Rattle.hash_index.specs.Index.{IndexOf}
 use Rattle.commit.specs.RowLaws.{few-rows, new-stands}
+use Rattle.commit.specs.IndexedLaws.{index-of}
 use borrow.Author.Needs.{needs}
 use Rattle.commit.proofs.rows.find.Statement.{statement}
 use Rattle.commit.proofs.rows.find.Tie as tie
@@ -19,7 +20,7 @@ look-up-requires c κs =
     let a = c .before .before .before .args in
     let p = c .before .before .before .pre in
     subst (λ (t : TableInfo). Stands (now (a .rows)) t × IndexOf (now (a .rows)) t (now (a .index))) (sym (c .table-of .ensures))
-    (new-stands (p .0) (p .1), either inl (λ q. inr (omega (arith, few-rows (p .0 .some) (p .1), q .0), q .1)) (p .2))
+    (new-stands (p .0) (p .1), either inl (λ q. inr (omega (arith, few-rows (p .0 .some) (p .1), p .2 .few), q)) (index-of (a .info) (now (a .index)) _ (p .2 .is)))
 
 returns : tie.Need-returns
 returns c =

@@ -1,13 +1,13 @@
 use Prim.Native.Nat.{ℕ, _+_, _-_, _≤_}
 use mathlib.Core.List.{List}
 use lib.Seq.{take-all}
-use mathlib.Core.Path.{_≡_, sym, ap, _∙_, subst}
+use mathlib.Core.Path.{_≡_, sym, ap, _∙_}
 use native.Mathlib.Omega.{arith}
 use denote.Ref.{now}
 use lib.ListN.{length, take, drop, length-take, length-drop}
 use Rattle.tables.specs.TablesLaws.{found-within}
 use Rattle.commit.specs.Rows.{Rows, newInfo, mergedAt, putRow}
-use Rattle.commit.specs.Indexed.{IndexedRows}
+use Rattle.commit.specs.Indexed.{indexFor}
 use Rattle.commit.specs.RowLaws.{key-found}
 use Rattle.commit.specs.IndexedLaws.{merge-indexed}
 use borrow.Author.Needs.{needs}
@@ -74,7 +74,7 @@ returns c =
     let e = key-found (now (a .rows)) (newInfo (a .info) (a .part)) row (c .before .before .before .before .before .before .before .before .before .before .before .before .key-of .result) (c .before .before .before .before .before .before .before .before .before .before .before .before .key-of .ensures) (omega (arith, pre .0 .keys, pre .3)) (pre .0 .few) ∙ at in
     let r : take (length row - k) (drop k row) ≡ drop k row = take-all (length row - k) (drop k row) (omega (arith, length-drop k row)) in
     let m : _≡_ {A = Rows} (record { words = c .before .before .merge-words .last .0; part = a .part }) (mergedAt (a .info) row (g .0 .0) s) = rw (← r) (ap (λ (x : List ℕ). record { words = x; part = a .part }) (c .before .before .merge-words .ensures)) in
-    (rw e m, subst (λ (x : Rows). IndexedRows (a .info) x (now (a .index))) (sym m) (merge-indexed (a .info) (pre .0) row (pre .3) s (pre .1) (c .before .before .before .before .before .before .before .before .before .before .before .before .key-of .result) (now (a .index)) (g .0 .0) at (pre .2)))
+    (rw e m, pre .2 .is ∙ merge-indexed (a .info) (pre .0) row (pre .3) s (pre .1) (c .before .before .before .before .before .before .before .before .before .before .before .before .key-of .result) (g .0 .0) at (length (now (a .index))) ∙ ap (λ (x : Rows). indexFor (a .info) x (length (now (a .index)))) (sym m))
 
 same-length-3 : tie.Need-same-length-3
 same-length-3 c = search needs
