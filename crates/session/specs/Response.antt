@@ -2,10 +2,9 @@
 use Prim.Native.Nat.{ℕ, _<_, _≤_}
 use mathlib.Core.Path.{_≡_, sym, ap, _∙_, subst}
 use mathlib.Core.Option.{none}
-use mathlib.Core.List.{List}
+use mathlib.Core.List.{List, _++_}
 use native.Mathlib.Omega.{arith}
 use lib.ListN.{length, getD, take, drop, replicate, take-append-drop, length-take, length-replicate}
-use lib.Seq.{take-at}
 use Rattle.model.specs.Basics.{All}
 use Rattle.model.specs.Book.Words.{Byte, wordsOf}
 use Rattle.model.specs.Outcome.{Lent, Permitted, refusal, left}
@@ -35,11 +34,10 @@ narrow n (Accepted k) w words h = (All-left Small (take k w) (drop k w) (subst (
 narrow n (Refused k p) w words h = tt
 
 -- a text that has room in the buffer is all that was appended
-whole : (bs out now : List ℕ) (r : ℕ) → length bs ≤ length out → upTo now r ≡ appended bs (upTo out 0) → (take r now ≡ bs) × (r ≡ length bs)
+whole : (bs out now : List ℕ) (r : ℕ) → length bs ≤ length out → upTo now r ≡ appended bs (upTo out 0) → (now ≡ bs ++ drop (length bs) out) × (r ≡ length bs)
 whole bs out now r h e =
     let same = e ∙ text-fits bs out h in
-    let n : r ≡ length bs = ap (λ (t : Text). t .at) same in
-    (ap (take r) (ap (λ (t : Text). t .bytes) same) ∙ take-at bs (drop (length bs) out) r (sym n), n)
+    (ap (λ (t : Text). t .bytes) same, ap (λ (t : Text). t .at) same)
 
 module _ (book : List ℕ) (bytes : (i : ℕ) → getD book i 0 < 256) (o : Outcome) (w : List ℕ) (words : (i : ℕ) → getD w i 0 < 4294967296) (permitted : Permitted lent book (outcomeOf o w)) (kept : AnswerLeft o (lent .answer) w) where
   may : Permitted dispatchLends book (outcomeOf o w)
@@ -48,8 +46,9 @@ module _ (book : List ℕ) (bytes : (i : ℕ) → getD book i 0 < 256) (o : Outc
   sized : refusal dispatchLends book ≡ none → All (Sized (wordsOf book)) (left dispatchLends book .log)
   sized = log-sized dispatchLends book (all-read Byte book bytes)
 
-  pub lines-whole : (out now : List ℕ) (r : ℕ) → 180224 ≤ length out → upTo now r ≡ appended (text (outcomeLines (outcomeOf o w))) (upTo out 0) → (take r now ≡ text (printed dispatchLends book)) × (r ≤ 180224)
+  pub lines-whole : (out now : List ℕ) (r : ℕ) → 180224 ≤ length out → upTo now r ≡ appended (text (outcomeLines (outcomeOf o w))) (upTo out 0) → (now ≡ text (printed dispatchLends book) ++ drop (length (text (printed dispatchLends book))) out) × (r ≡ length (text (printed dispatchLends book))) × (r ≤ 180224)
   lines-whole out now r room e =
       let short = permitted-short dispatchLends book sized 16384 (omega arith) (omega arith) (outcomeOf o w) may (narrow 16384 o w words (subst (λ (l : Lent). AnswerLeft o (l .answer) w) as-dispatch kept)) in
       let all = whole (text (outcomeLines (outcomeOf o w))) out now r (omega (arith, short)) e in
-      (all .0 ∙ ap text (permitted-lines dispatchLends book sized (outcomeOf o w) may), omega (arith, short, all .1))
+      let same = ap text (permitted-lines dispatchLends book sized (outcomeOf o w) may) in
+      (all .0 ∙ ap (λ (bs : List ℕ). bs ++ drop (length bs) out) same, all .1 ∙ ap length same, omega (arith, short, all .1))

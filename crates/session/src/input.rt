@@ -1,7 +1,7 @@
 // A descriptor read up to its end. A buffer of 65537 bytes tells a book of 65536 bytes from a longer one; what has no room there is read and dropped.
 ghost use Prim.Native.Nat.{_<_, _≤_};
 ghost use lib.ListN.{length};
-ghost use Rattle.session.specs.Input.{Filled};
+ghost use Rattle.session.specs.Input.{Filled, Held};
 
 // How many bytes are there; or a read failed.
 pub enum Input {
@@ -57,8 +57,10 @@ fn drop_rest(fd: i32) -> bool {
     true
 }
 
-// All of an input, as far as the buffer holds it.
-pub fn read_all(fd: i32, buffer: &mut [u8]) -> Input {
+// All of an input, as far as the buffer holds it. Which bytes were read no contract can say, only where they end.
+pub fn read_all(fd: i32, buffer: &mut [u8]) -> Input
+    ensures { λ r. ⌜ Held (length (now (buffer .entry))) r ⌝ }
+{
     let mut at = 0;
     while at < buffer.len() {
         match read_some(fd, buffer, at) {

@@ -2,8 +2,9 @@
 mod input;
 
 ghost use mathlib.Core.Path.{_≡_};
+ghost use mathlib.Core.List.{_++_};
 ghost use Prim.Native.Nat.{ℕ, _<_, _≤_};
-ghost use lib.ListN.{length, getD, take};
+ghost use lib.ListN.{length, getD, take, drop};
 ghost use Rattle.model.specs.Printed.{printed};
 ghost use Rattle.model.specs.Claims.Cases.{dispatchLends};
 ghost use Rattle.engine.specs.Engine.{outcomeOf};
@@ -36,11 +37,11 @@ fn lines(outcome: Outcome, answer: &[u32], out: &mut [u8]) -> usize
     }
 }
 
-// Runs a book with 8192 words of bindings and of index and 16384 each of log, tables and answer, and puts its lines at the front of `out`. Answers how many bytes they have. The lines of an answer have 11 bytes a word at most, so all of them have room.
+// Runs a book with 8192 words of bindings and of index and 16384 each of log, tables and answer, and puts its lines at the front of `out`, whose rest stays as it was. Answers how many bytes they have. The lines of an answer have 11 bytes a word at most, so all of them have room.
 pub fn respond(book: &[u8], out: &mut [u8]) -> usize
     requires { ⌜ 180224 ≤ length (now out) ⌝ }
-    ensures text { λ r. ⌜ take r (now (out .exit)) ≡ text (printed dispatchLends (now (book .entry))) ⌝ }
-    ensures size { λ r. ⌜ r ≤ 180224 ⌝ }
+    ensures text { λ _. ⌜ now (out .exit) ≡ text (printed dispatchLends (now (book .entry))) ++ drop (length (text (printed dispatchLends (now (book .entry))))) (now (out .entry)) ⌝ }
+    ensures size { λ r. ⌜ (r ≡ length (text (printed dispatchLends (now (book .entry))))) × (r ≤ 180224) ⌝ }
 {
     let mut bindings = [0u32; 8192];
     let mut index = [0u32; 8192];
@@ -80,11 +81,11 @@ fn answer_book(book: &[u8]) {
     print(response(book, &mut out));
 }
 
-// Reads a book up to the end of its input and prints what comes of it. Where the input cannot be read it says so on standard error, under the name given, and prints nothing.
+// Reads a book up to the end of its input and prints what comes of it. Where the input cannot be read it says so on standard error, under the name given, and prints nothing. It has no result and is lent nothing for change, and what was read and written no contract can say, so it has none.
 pub fn serve(fd: i32, name: &[u8]) {
     let mut buffer = [0u8; 65537];
     match input::read_all(fd, &mut buffer) {
-        Input::Bytes(n) => answer_book(front(&buffer, n)),
+        Input::Bytes(n) => answer_book(&buffer[..n]),
         Input::Failed => os::fail(name),
     }
 }

@@ -1,4 +1,6 @@
-use mathlib.Core.Path.{_∙_}
+use mathlib.Core.Path.{sym, ap, _∙_}
+use lib.ListN.{take}
+use lib.Seq.{take-at}
 use borrow.Author.Needs.{needs}
 use Rattle.session.proofs.response.Statement.{statement}
 use Rattle.session.proofs.response.Tie as tie
@@ -10,7 +12,9 @@ front-requires : tie.Need-front-requires
 front-requires c κs = search needs
 
 returns : tie.Need-returns
-returns c = c .front .ensures ∙ c .before .before .before .before .respond .ensures .0
+returns c =
+    let r = c .before .before .before .before .respond .ensures in
+    c .front .ensures ∙ ap (take (c .before .before .before .before .respond .result)) (r .0) ∙ take-at _ _ _ (sym (r .1 .0))
 
 pub response-spec : {M : Type 1} → statement M
 response-spec = tie.close (tie.spec respond-requires front-requires returns)
