@@ -14,7 +14,7 @@ use tables::Found;
 use tables::TableInfo;
 
 // A product by an odd number, wrapping at 32 bits: its high bits depend on all bits of h.
-pub fn spin(h: u32) -> u32
+fn spin(h: u32) -> u32
     ensures { λ r. ⌜ r ≡ spun h ⌝ }
 {
     let product = (h as u64) * 2654435761;

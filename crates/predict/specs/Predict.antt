@@ -13,6 +13,7 @@ use Rattle.tables.specs.declared.Place.the-variants.{InTable, InLog}
 use Rattle.tables.specs.Tables.{foundRow}
 use Rattle.predicted.specs.declared.Slot.{Slot}
 use Rattle.predicted.specs.declared.Slot.the-variants.{Hit, Free, Full as NoSlot}
+use Rattle.predicted.specs.Home.{homeOf}
 use Rattle.predicted.specs.Index.{slotOf}
 use Rattle.instr.specs.Stands.{Short}
 use Rattle.lanes.specs.Lanes.{listed}
@@ -97,7 +98,7 @@ module _ (w m : List ℕ) where
 
   -- the predicted row of the key, else a new one
   unfoldable pub gotten : ℕ → Row → Args → Held → Gotten
-  gotten i row key h = bySlot i row key h (slotOf (h .index) (h .log) (row .table .0) (key .vals) (row .keys))
+  gotten i row key h = bySlot i row key h (slotOf homeOf (h .index) (h .log) (row .table .0) (key .vals) (row .keys))
 
   -- lane i, if it is live and the run goes on
   unfoldable pub servedLane : Asking → Bool → ℕ → Served → Served

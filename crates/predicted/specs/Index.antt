@@ -8,7 +8,6 @@ use lib.ListN.{length, getD}
 use Rattle.tables.specs.Tables.{front, sameWords}
 use Rattle.predicted.specs.declared.Slot.{Slot}
 use Rattle.predicted.specs.declared.Slot.the-variants.{Hit, Free, Full}
-use Rattle.predicted.specs.Home.{homeOf}
 
 -- the slot after s, round the end
 unfoldable pub after : ℕ → ℕ
@@ -28,8 +27,9 @@ probed ix m (suc f) s = cond (eqb (getD ix s 0) 0) (Free s) (cond (m (getD ix s 
 unfoldable pub answers : List ℕ → ℕ → List ℕ → ℕ → ℕ → Bool
 answers log t key k v = leb (v + 1 + k) (length log) && eqb (getD log v 0) t && sameWords log (v + 1) key k
 
-unfoldable pub slotOf : List ℕ → List ℕ → ℕ → List ℕ → ℕ → Slot
-slotOf ix log t key k = probed ix (answers log t key k) 8192 (homeOf t (front key k))
+-- from the home that a key of table t has, whatever gives it one
+unfoldable pub slotOf : (ℕ → List ℕ → ℕ) → List ℕ → List ℕ → ℕ → List ℕ → ℕ → Slot
+slotOf home ix log t key k = probed ix (answers log t key k) 8192 (home t (front key k))
 
 -- a place that was hit is one less than a slot's word
 abbrev pub Small : Slot → Type 0

@@ -1,4 +1,4 @@
--- What it is for an index to be right for the records of a log.
+-- What it is for an index to be right for the records of a log, whatever home each key has.
 use Prim.Native.Nat.{ℕ, zero, suc, _+_, _<_, _≤_}
 use mathlib.Core.Path.{_≡_}
 use mathlib.Core.Option.{some}
@@ -10,7 +10,6 @@ use Rattle.model.specs.Machine.State.{Record}
 use Rattle.model.specs.Machine.Values.{predictedRows}
 use Rattle.model.specs.Answer.{flag}
 use Rattle.log.specs.Log.{placeOf}
-use Rattle.predicted.specs.Home.{homeOf}
 use Rattle.predicted.specs.Index.{Chain}
 
 -- how many slots are busy
@@ -42,9 +41,6 @@ module _ (keysOf : ℕ → ℕ) where
     pub word : r .kind ≡ 2 → 0 < length (r .words)
     pub key : r .kind ≡ 2 → keysOf (r .table) ≤ length (r .words)
 
-  abbrev pub homeOfRow : Record → ℕ
-  homeOfRow r = homeOf (r .table) (take (keysOf (r .table)) (r .words))
-
   -- the model's predicted row of a key: the record at the place p
   pub record RowAt (records : List Record) (t : ℕ) (key : List ℕ) (p : ℕ) : Type 0 where
     pub index : ℕ
@@ -55,9 +51,14 @@ module _ (keysOf : ℕ → ℕ) where
     pub place : p ≡ placeOf records index
     pub first-row : first (predictedRows (keysOf t) t key records) ≡ some (row .words)
 
+-- home t key: the slot from which a key of table t is looked for
+module _ (home : ℕ → List ℕ → ℕ) (keysOf : ℕ → ℕ) where
+  abbrev pub homeOfRow : Record → ℕ
+  homeOfRow r = home (r .table) (take (keysOf (r .table)) (r .words))
+
   pub record IndexOk (ix : List ℕ) (records : List Record) : Type 0 where
     pub size : length ix ≡ 8192
-    pub whole : All Whole records
+    pub whole : All (Whole keysOf) records
     -- one row at most for each table and key
     pub once : (t : ℕ) (key : List ℕ) → length (predictedRows (keysOf t) t key records) ≤ 1
     -- a busy slot stands for a predicted row, and each of these is reached from its home

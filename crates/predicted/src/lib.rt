@@ -14,12 +14,12 @@ pub enum Slot {
     Full,
 }
 
-// The slot from which a key of a table is looked for: the high 13 bits of its words, folded.
+// The slot from which a key of a table is looked for: the high 13 bits of the table's number and the key's words, folded. The laws of the index hold for any other.
 fn home_of(table: ids::TableId, key: &[u32; 16], k: usize) -> usize
     requires { ⌜ k ≤ 16 ⌝ }
     ensures { λ r. ⌜ (r ≡ homeOf (table .0) (front (now (key .entry)) k)) × (r < 8192) ⌝ }
 {
-    let mut h = hash_index::spin(table.0);
+    let mut h = hash_index::mix(0, table.0);
     let mut i = 0;
     while i < k {
         h = hash_index::mix(h, key[i]);
@@ -80,7 +80,7 @@ fn probe(
 // Where the predicted row of a key of k words stands in the log, or would stand in the index.
 pub fn get(index: &[u32], log: &[u32], table: ids::TableId, key: &[u32; 16], k: usize) -> Slot
     requires { ⌜ (length (now index) ≡ 8192) × (k ≤ 16) ⌝ }
-    ensures is { λ r. ⌜ r ≡ slotOf (now (index .entry)) (now (log .entry)) (table .0) (now (key .entry)) k ⌝ }
+    ensures is { λ r. ⌜ r ≡ slotOf homeOf (now (index .entry)) (now (log .entry)) (table .0) (now (key .entry)) k ⌝ }
     ensures small { λ r. ⌜ Small r ⌝ }
 {
     let home = home_of(table, key, k);

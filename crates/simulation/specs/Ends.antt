@@ -27,6 +27,8 @@ use Rattle.model.specs.Safety.BookClaims.{demand3, own-steps}
 use Rattle.counter.specs.CounterLaws.{padded}
 use Rattle.log.specs.Log.{logOf}
 use Rattle.log.specs.LogLaws.{no-records, used-words}
+use Rattle.predicted.specs.Home.{homeOf}
+use Rattle.predicted.specs.HomeLaws.{home-below}
 use Rattle.predicted.specs.RightLaws.{none-ok}
 use Rattle.commit.specs.Commit.{Left, committedRows}
 use Rattle.commit.specs.RecordLaws.{recordsOf}
@@ -55,7 +57,7 @@ startProgress w = record { state = startState w; done = 0; at = 0; lengths = rep
 pub starts : (w : List ℕ) (L A : ℕ) (m : List ℕ) → RunIs w L 0 (fresh (counters w)) (record { progress = startProgress w; bindings = m; log = replicate L 0; index = replicate 8192 0; answer = replicate A 0 })
 unfolding counters tab
 starts w L A m = record {
-  is = record { fits = omega arith; log-is = sym (no-records L); used = refl; index-ok = none-ok _; next = refl; counted = length-tab _ (counterCount w); flag = refl; sized = tt };
+  is = record { fits = omega arith; log-is = sym (no-records L); used = refl; index-ok = none-ok homeOf home-below _; next = refl; counted = length-tab _ (counterCount w); flag = refl; sized = tt };
   count = refl;
   done = refl;
   at = refl;

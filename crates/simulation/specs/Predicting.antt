@@ -32,9 +32,11 @@ use Rattle.log.specs.Log.{recordOf, logOf, placeOf}
 use Rattle.log.specs.LogLaws.{length-log, more-words, record-within, row-at, place-last}
 use Rattle.predicted.specs.declared.Slot.{Slot}
 use Rattle.predicted.specs.declared.Slot.the-variants.{Hit, Free, Full as NoSlot}
+use Rattle.predicted.specs.Home.{homeOf}
 use Rattle.predicted.specs.Index.{slotOf}
 use Rattle.predicted.specs.Right.{RowAt, IndexOk}
 use Rattle.predicted.specs.RecordLaws.{at-last}
+use Rattle.predicted.specs.HomeLaws.{home-below}
 use Rattle.predicted.specs.RightLaws.{get-hit, get-free, get-room, insert-ok}
 use Rattle.instr.specs.declared.Entries.{Entries}
 use Rattle.instr.specs.Instr.{writeAt}
@@ -109,15 +111,15 @@ module _ (w : List ℕ) (L : ℕ) (short : L ≤ 16384) (s : State) (x : Executi
   key-front : front (a .vals) (keysOf w t) ≡ key
   key-front = ap (λ (n : ℕ). tab (λ i. getD (a .vals) i 0) n) (sym (key-is .count)) ∙ front-list a key (keysOf w t) key-is
 
-  slot-is : slotOf index log t (a .vals) (row .keys) ≡ slotOf index (logOf (s .log) L) t (a .vals) (keysOf w t)
+  slot-is : slotOf homeOf index log t (a .vals) (row .keys) ≡ slotOf homeOf index (logOf (s .log) L) t (a .vals) (keysOf w t)
   slot-is = rw (is .log-is, keys)
 
   module _ (P : State → Gotten → Type 0) (k : Bool → List ℕ → State → State) (c : Cases P k) where
     -- a predicted row that is there
-    hit : (p : ℕ) → slotOf index (logOf (s .log) L) t (a .vals) (keysOf w t) ≡ Hit p → P (predictRow E o b t key (writesOf w (row .vals)) s k) (flat.bySlot w m (o .lane) row a held (Hit p))
+    hit : (p : ℕ) → slotOf homeOf index (logOf (s .log) L) t (a .vals) (keysOf w t) ≡ Hit p → P (predictRow E o b t key (writesOf w (row .vals)) s k) (flat.bySlot w m (o .lane) row a held (Hit p))
     unfolding predictRow
     hit p e =
-        let r = get-hit (keysOf w) index (s .log) (is .index-ok) L (is .fits) t (a .vals) p e in
+        let r = get-hit homeOf home-below (keysOf w) index (s .log) (is .index-ok) L (is .fits) t (a .vals) p e in
         let f : first (predictedRows (tableOf E t .keys) t key (s .log)) ≡ some (r .row .words) = rw (table-keys w t (table .known), ← key-front) (r .first-row) in
         let z : length (r .row .words) ≡ widthOf w t = All-at (Sized w) (s .log) (r .index) (is .sized) (r .is) .size ∙ rw (r .kind, r .table) (table-width w t (table .known)) in
         rw f
@@ -134,7 +136,7 @@ module _ (w : List ℕ) (L : ℕ) (short : L ≤ 16384) (s : State) (x : Executi
         }))
 
     -- a new one, in a free slot
-    module _ (slot : ℕ) (e : slotOf index (logOf (s .log) L) t (a .vals) (keysOf w t) ≡ Free slot) where
+    module _ (slot : ℕ) (e : slotOf homeOf index (logOf (s .log) L) t (a .vals) (keysOf w t) ≡ Free slot) where
       abbrev B : Building
       B = code.built w m (o .lane) a (row .vals .at) (row .vals .count) (x .counters)
 
@@ -166,7 +168,7 @@ module _ (w : List ℕ) (L : ℕ) (short : L ≤ 16384) (s : State) (x : Executi
             fits = leb-true (logWords all) L q;
             log-is = refl;
             used = refl;
-            index-ok = subst (λ (v : ℕ). IndexOk (keysOf w) (set index slot (v + 1)) all) (sym (is .used)) (insert-ok (keysOf w) index (s .log) (is .index-ok) new L (is .fits) t (a .vals) slot e refl refl (starts ∙ sym key-front) (omega (arith, h .row-is .size, table .some-column)) (omega (arith, h .row-is .size)));
+            index-ok = subst (λ (v : ℕ). IndexOk homeOf (keysOf w) (set index slot (v + 1)) all) (sym (is .used)) (insert-ok homeOf home-below (keysOf w) index (s .log) (is .index-ok) new L (is .fits) t (a .vals) slot e refl refl (starts ∙ sym key-front) (omega (arith, h .row-is .size, table .some-column)) (omega (arith, h .row-is .size)));
             next = h .next;
             counted = h .counted;
             flag = is .flag;
@@ -209,14 +211,14 @@ module _ (w : List ℕ) (L : ℕ) (short : L ≤ 16384) (s : State) (x : Executi
       free : P (predictRow E o b t key (writesOf w (row .vals)) s k) (flat.bySlot w m (o .lane) row a held (Free slot))
       unfolding predictRow flat.inserted
       free =
-          let f : first (predictedRows (tableOf E t .keys) t key (s .log)) ≡ none = rw (table-keys w t (table .known), ← key-front) (ap first (get-free (keysOf w) index (s .log) (is .index-ok) L (is .fits) t (a .vals) slot e)) in
+          let f : first (predictedRows (tableOf E t .keys) t key (s .log)) ≡ none = rw (table-keys w t (table .known), ← key-front) (ap first (get-free homeOf home-below (keysOf w) index (s .log) (is .index-ok) L (is .fits) t (a .vals) slot e)) in
           rw f (need-ind (λ s′. P s′ G) (rowStart E t key (writesOf w (row .vals)) (s .counters)) s _ (c .sticking (stop stuck s) G refl) begun)
 
-    by-slot : (z : Slot) → slotOf index (logOf (s .log) L) t (a .vals) (keysOf w t) ≡ z → P (predictRow E o b t key (writesOf w (row .vals)) s k) (flat.bySlot w m (o .lane) row a held z)
+    by-slot : (z : Slot) → slotOf homeOf index (logOf (s .log) L) t (a .vals) (keysOf w t) ≡ z → P (predictRow E o b t key (writesOf w (row .vals)) s k) (flat.bySlot w m (o .lane) row a held z)
     by-slot (Hit p) e = hit p e
     by-slot (Free slot) e = free slot e
-    by-slot NoSlot e = absurd (get-room (keysOf w) index (s .log) (is .index-ok) L (is .fits) short (logOf (s .log) L) t (a .vals) (keysOf w t) e)
+    by-slot NoSlot e = absurd (get-room homeOf home-below (keysOf w) index (s .log) (is .index-ok) L (is .fits) short (logOf (s .log) L) t (a .vals) (keysOf w t) e)
 
     pub got-ind : P (predictRow E o b t key (writesOf w (row .vals)) s k) g
     unfolding gotten
-    got-ind = rw slot-is (by-slot (slotOf index (logOf (s .log) L) t (a .vals) (keysOf w t)) refl)
+    got-ind = rw slot-is (by-slot (slotOf homeOf index (logOf (s .log) L) t (a .vals) (keysOf w t)) refl)

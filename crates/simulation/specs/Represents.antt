@@ -25,6 +25,7 @@ use Rattle.args.specs.declared.Args.{Args}
 use Rattle.args.specs.Args.{asList}
 use Rattle.counter.specs.CounterLaws.{padded}
 use Rattle.log.specs.Log.{logOf}
+use Rattle.predicted.specs.Home.{homeOf}
 use Rattle.predicted.specs.Right.{IndexOk}
 use Rattle.bindings.specs.Columns.{columnsOf, fetched, valueAt}
 use Rattle.bindings.specs.BindingLaws.{Named, fetch-is}
@@ -46,7 +47,7 @@ pub record LogIs (w : List ℕ) (L : ℕ) (records : List Record) (counters : Li
   pub fits : logWords records ≤ L
   pub log-is : log ≡ logOf records L
   pub used : x .used ≡ logWords records
-  pub index-ok : IndexOk (keysOf w) index records
+  pub index-ok : IndexOk homeOf (keysOf w) index records
   pub next : x .counters .next ≡ padded counters
   pub counted : length counters ≡ counterCount w
   pub flag : x .changed ≡ changed

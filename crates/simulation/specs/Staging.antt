@@ -24,6 +24,8 @@ use Rattle.args.specs.declared.Args.{Args}
 use Rattle.log.specs.declared.Appended.the-variants.{Used, Full as NoRoom}
 use Rattle.log.specs.Log.{recordOf, logOf, appended, stored}
 use Rattle.log.specs.LogLaws.{append-answer, append-log}
+use Rattle.predicted.specs.Home.{homeOf}
+use Rattle.predicted.specs.HomeLaws.{home-below}
 use Rattle.predicted.specs.RightLaws.{other-ok}
 use Rattle.mask.specs.Masks.{padded}
 use Rattle.mask.specs.MaskLaws.{has-padded}
@@ -90,7 +92,7 @@ module _ (w : List ℕ) (L : ℕ) where
           fits = leb-true _ _ e;
           log-is = refl;
           used = refl;
-          index-ok = other-ok (keysOf w) index (s .log) (m .is .index-ok) new insert;
+          index-ok = other-ok homeOf home-below (keysOf w) index (s .log) (m .is .index-ok) new insert;
           next = m .is .next;
           counted = m .is .counted;
           flag = refl;

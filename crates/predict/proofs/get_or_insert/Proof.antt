@@ -1,5 +1,7 @@
 use mathlib.Core.Path.{sym, _∙_}
 use native.Mathlib.Omega.{arith}
+use Rattle.predicted.specs.Home.{homeOf}
+use Rattle.predicted.specs.HomeLaws.{home-below}
 use Rattle.predicted.specs.RightLaws.{get-below}
 use Rattle.predict.specs.Predict.{gotten}
 use borrow.Author.Needs.{needs}
@@ -18,7 +20,7 @@ enum-known-slot c = search needs
 insert-requires : tie.Need-insert-requires
 insert-requires c κs =
     let p = c .before .before .before .before .before .before .before .before .before .before .before .before .before .before .pre in
-    (p .0, p .1, p .2, get-below _ _ _ _ _ _ (sym (c .before .before .before .before .before .get .ensures .0) ∙ c .before .before .before .slot .given .1))
+    (p .0, p .1, p .2, get-below homeOf home-below _ _ _ _ _ _ (sym (c .before .before .before .before .before .get .ensures .0) ∙ c .before .before .before .slot .given .1))
 
 enum-told : tie.Need-enum-told
 enum-told c = search needs

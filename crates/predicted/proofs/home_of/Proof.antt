@@ -18,11 +18,11 @@ Inv-loop key k h₀ i₀ h i = (i ≤ k) × (h ≡ folded h₀ (front key i))
 abbrev μ-loop : tie.MeasureT-loop
 μ-loop key k h₀ i₀ h i = k - i
 
-spin-requires : tie.Need-spin-requires Inv-loop μ-loop
-spin-requires c κs = search needs
+mix-requires : tie.Need-mix-requires Inv-loop μ-loop
+mix-requires c κs = search needs
 
 loop-holds : tie.Need-loop-holds Inv-loop μ-loop
-loop-holds c = (search needs, folded-none (c .spin .result) (λ j. getD (now (c .before .args .key)) j 0))
+loop-holds c = (search needs, folded-none (c .mix .result) (λ j. getD (now (c .before .args .key)) j 0))
 
 mul-mix : tie.Need-mul-mix Inv-loop μ-loop
 mul-mix c = search needs
@@ -30,8 +30,8 @@ mul-mix c = search needs
 element-copy-out-mix : tie.Need-element-copy-out-mix Inv-loop μ-loop
 element-copy-out-mix c = search needs
 
-mix-requires : tie.Need-mix-requires Inv-loop μ-loop
-mix-requires c κs = search needs
+mix-requires-2 : tie.Need-mix-requires-2 Inv-loop μ-loop
+mix-requires-2 c κs = search needs
 
 add-i : tie.Need-add-i Inv-loop μ-loop
 add-i c = search needs
@@ -42,18 +42,18 @@ loop-less c = search needs
 loop-again : tie.Need-loop-again Inv-loop μ-loop
 loop-again c =
     let l = c .before .before .before .loop in
-    (search needs, folded-more (c .before .before .before .before .spin .result) (λ j. getD (now (c .before .before .before .before .before .args .key)) j 0) (l .i) (l .h) (c .mix .result) (l .inv .1) (c .mix .ensures))
+    (search needs, folded-more (c .before .before .before .before .mix .result) (λ j. getD (now (c .before .before .before .before .before .args .key)) j 0) (l .i) (l .h) (c .mix2 .result) (l .inv .1) (c .mix2 .ensures))
 
 size-requires : tie.Need-size-requires Inv-loop μ-loop
 size-requires c κs = search needs
 
 returns : tie.Need-returns Inv-loop μ-loop
-unfolding homeOf
+unfolding homeOf folded
 returns c =
     let a = c .before .before .before .before .args in
     let l = c .before .before .loop in
     let e : l .i ≡ a .k = omega arith in
-    let h : l .h / 524288 ≡ homeOf (a .table .0) (front (now (a .key)) (a .k)) = ap (λ (x : ℕ). x / 524288) (l .inv .1 ∙ ap (λ (n : ℕ). folded (c .before .before .before .spin .result) (front (now (a .key)) n)) e ∙ ap (λ (x : ℕ). folded x (front (now (a .key)) (a .k))) (c .before .before .before .spin .ensures)) in
+    let h : l .h / 524288 ≡ homeOf (a .table .0) (front (now (a .key)) (a .k)) = ap (λ (x : ℕ). x / 524288) (l .inv .1 ∙ ap (λ (n : ℕ). folded (c .before .before .before .mix .result) (front (now (a .key)) n)) e ∙ ap (λ (x : ℕ). folded x (front (now (a .key)) (a .k))) (c .before .before .before .mix .ensures)) in
     (c .size .ensures .0 ∙ h, rw (c .size .ensures .0 ∙ h) (home-below (a .table .0) (front (now (a .key)) (a .k))))
 
 pub home-of-spec : {M : Type 1} → statement M
@@ -62,11 +62,11 @@ home-of-spec =
     (tie.spec
     Inv-loop
     μ-loop
-    spin-requires
+    mix-requires
     loop-holds
     mul-mix
     element-copy-out-mix
-    mix-requires
+    mix-requires-2
     add-i
     loop-less
     loop-again
