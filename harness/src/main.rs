@@ -13,7 +13,7 @@ mod shrink;
 mod tally;
 mod time;
 
-use std::sync::atomic::{AtomicU64, Ordering};
+use std::process::{Child, Command, Stdio};
 
 use case::Case;
 use core_relations::drive::{self, Fill};
@@ -23,19 +23,19 @@ use memory::Memory;
 use plain::Refusal;
 use tally::Tally;
 
-/// Books are handed to the threads so many at a time.
+/// Jobs take their books so many at a time, in turn.
 const PORTION: u64 = 250;
 /// After so many books a line says how far the run is.
 const TOLD: u64 = 100_000;
-/// The engine keeps a book's words on the stack, and more.
-const STACK: usize = 64 << 20;
 
 struct Options {
     engine: Engine,
     seed: u64,
     first: u64,
     books: u64,
-    jobs: usize,
+    jobs: u64,
+    /// Which of the jobs this process is, if it is one of several.
+    part: Option<u64>,
     /// So many disagreements are shrunk and shown.
     shown: usize,
     task: Task,
@@ -54,7 +54,8 @@ enum Task {
 
 fn options() -> Options {
     let engine = if cfg!(engine) { Engine::Proved } else { Engine::Plain };
-    let mut options = Options { engine, seed: 1, first: 0, books: 10000, jobs: 1, shown: 10, task: Task::Compare };
+    let mut options =
+        Options { engine, seed: 1, first: 0, books: 10000, jobs: 1, part: None, shown: 10, task: Task::Compare };
     let mut args = std::env::args().skip(1);
     while let Some(arg) = args.next() {
         let mut value = || args.next().unwrap_or_else(|| usage(&format!("{arg} wants a value")));
@@ -70,7 +71,8 @@ fn options() -> Options {
             "--seed" => options.seed = number(value()),
             "--first" => options.first = number(value()),
             "--books" => options.books = number(value()),
-            "--jobs" => options.jobs = number(value()) as usize,
+            "--jobs" => options.jobs = number(value()).max(1),
+            "--part" => options.part = Some(number(value())),
             "--shown" => options.shown = number(value()) as usize,
             "--time" => options.task = Task::Time,
             "--sample" => options.task = Task::Sample(value()),
@@ -101,46 +103,75 @@ fn main() {
 
 // ---- many books
 
-fn compare(options: &Options) {
-    let next = AtomicU64::new(options.first);
+/// What a job came to: its counts, and the numbers of books that show a disagreement.
+struct Came {
+    counts: Vec<u64>,
+    found: Vec<u64>,
+}
+
+fn run(options: &Options, part: u64) -> Came {
+    let (mut tally, mut found, mut memory) = (Tally::default(), Vec::new(), Memory::default());
     let end = options.first + options.books;
-    let run = || {
-        let (mut tally, mut found, mut memory) = (Tally::default(), Vec::new(), Memory::default());
-        loop {
-            let from = next.fetch_add(PORTION, Ordering::Relaxed);
-            if from >= end {
-                return (tally, found);
-            }
-            if from > options.first && (from - options.first) % TOLD < PORTION {
-                eprintln!("{} books, this thread {} disagreements", from - options.first, tally.disagreements);
-            }
-            for index in from..end.min(from + PORTION) {
-                let case = case::generated(options.seed, index);
-                let verdict = judge(&case, options.engine, &mut memory);
-                tally.note(&case, &verdict);
-                if verdict.disagreement.is_some() && found.len() < options.shown {
-                    found.push((index, case));
-                }
+    let mut from = options.first + part * PORTION;
+    while from < end {
+        if from > options.first && (from - options.first) % TOLD < PORTION {
+            eprintln!("{} books, {} disagreements in this job", from - options.first, tally.disagreements);
+        }
+        for index in from..end.min(from + PORTION) {
+            let case = case::generated(options.seed, index);
+            let verdict = judge(&case, options.engine, &mut memory);
+            tally.note(&case, &verdict);
+            if verdict.disagreement.is_some() && found.len() < options.shown {
+                found.push(index);
             }
         }
+        from += options.jobs * PORTION;
+    }
+    Came { counts: tally.numbers(), found }
+}
+
+/// Each job is a process of its own, with one thread as this one has. It writes two lines of numbers: its counts, and
+/// the books that it found.
+fn side_by_side(options: &Options) -> Vec<Came> {
+    let this = std::env::current_exe().expect("this program");
+    let start = |part: u64| {
+        let mut job = Command::new(&this);
+        job.args(std::env::args().skip(1)).args(["--part", &part.to_string()]).stdout(Stdio::piped());
+        job.spawn().expect("a job")
     };
-    let (mut tally, mut found) = (Tally::default(), Vec::new());
-    std::thread::scope(|scope| {
-        let spawn = |_| std::thread::Builder::new().stack_size(STACK).spawn_scoped(scope, run).expect("a thread");
-        let threads: Vec<_> = (0..options.jobs.max(1)).map(spawn).collect();
-        for thread in threads {
-            let (its_tally, its_found) = thread.join().expect("the end of a thread");
-            tally.add(&its_tally);
-            found.extend(its_found);
+    let end = |job: Child| {
+        let ended = job.wait_with_output().expect("the end of a job");
+        assert!(ended.status.success(), "a job failed");
+        let text = String::from_utf8(ended.stdout).expect("numbers");
+        let numbers = |line: &str| line.split_whitespace().map(|n| n.parse().expect("a number")).collect();
+        let mut lines = text.lines().map(numbers);
+        Came { counts: lines.next().expect("counts"), found: lines.next().expect("books") }
+    };
+    let jobs: Vec<_> = (0..options.jobs).map(start).collect();
+    jobs.into_iter().map(end).collect()
+}
+
+fn compare(options: &Options) {
+    if let Some(part) = options.part {
+        let came = run(options, part);
+        for numbers in [came.counts, came.found] {
+            println!("{}", numbers.iter().map(u64::to_string).collect::<Vec<_>>().join(" "));
         }
-    });
+        return;
+    }
+    let parts = if options.jobs > 1 { side_by_side(options) } else { vec![run(options, 0)] };
+    let (mut tally, mut found) = (Tally::default(), Vec::new());
+    for came in parts {
+        tally.add(&came.counts);
+        found.extend(came.found);
+    }
     println!("seed {}, from book {}, {} against the Rust", options.seed, options.first, options.engine.name());
     tally.print();
-    found.sort_by_key(|(index, _)| *index);
-    for (index, case) in found.iter().take(options.shown) {
+    found.sort();
+    for index in found.into_iter().take(options.shown) {
         let mut memory = Memory::default();
         let mut shows = |case: &Case| judge(case, options.engine, &mut memory).disagreement.is_some();
-        let small = shrink::shrunk(case, &mut shows);
+        let small = shrink::shrunk(&case::generated(options.seed, index), &mut shows);
         println!("\nbook {index} (--seed {} --first {index} --books 1), shrunk:", options.seed);
         tell(&small, &judge(&small, options.engine, &mut memory), options.engine);
     }

@@ -137,16 +137,30 @@ impl Tally {
         to.batches_ended_early += from.batches_ended_early;
     }
 
-    pub fn add(&mut self, other: &Tally) {
-        self.books += other.books;
-        self.accepted += other.accepted;
-        self.dirty += other.dirty;
-        self.disagreements += other.disagreements;
-        add(&mut self.refused, &other.refused);
-        add(&mut self.shapes, &other.shapes);
-        add(&mut self.exactly_full, &other.exactly_full);
-        add(&mut self.one_short, &other.one_short);
-        self.note_coverage(&other.coverage);
+    /// Every count, in one order.
+    fn counts(&mut self) -> Vec<&mut u64> {
+        let c = &mut self.coverage;
+        let single = [
+            &mut self.books,
+            &mut self.accepted,
+            &mut self.dirty,
+            &mut self.disagreements,
+            &mut c.removed,
+            &mut c.predicted_again,
+            &mut c.batches_ended_early,
+        ];
+        let run = c.lanes.iter_mut().chain(&mut c.hits).chain(&mut c.misses).chain(&mut c.answers).chain(&mut c.nones);
+        let rest = self.refused.iter_mut().chain(&mut self.shapes).chain(&mut self.exactly_full);
+        single.into_iter().chain(run).chain(&mut c.merges).chain(rest).chain(&mut self.one_short).collect()
+    }
+
+    pub fn numbers(mut self) -> Vec<u64> {
+        self.counts().into_iter().map(|n| *n).collect()
+    }
+
+    /// What another tally has in numbers.
+    pub fn add(&mut self, numbers: &[u64]) {
+        self.counts().into_iter().zip(numbers).for_each(|(to, from)| *to += from);
     }
 
     /// Everything that was counted, each with its name.
