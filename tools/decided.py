@@ -14,7 +14,7 @@ use mathlib.Core.Path.{_≡_, refl}
 use mathlib.Core.List.{List, [], _∷_}
 use Rattle.model.specs.Basics.{All}
 use Rattle.model.specs.Book.Words.{bytesOf}
-use Rattle.model.specs.Outcome.{Lent, Outcome, accepted, outcome}
+use Rattle.model.specs.Outcome.{Lent, accepted, outcome}
 use Rattle.model.specs.Printed.{Line, run, row, ins, del, changed, table, counter, refused, printed}
 use Rattle.model.specs.Claims.Cases.{dispatchLends}
 use Rattle.model.proofs.Computed.{computed}
