@@ -17,7 +17,7 @@ extern "C" {
  *   bindings  8192 words
  *   index     8192 words
  *   log       up to 16384 words: the words of the records that the run stages
- *   tables    up to 16384 words: the words of all rows after the commit
+ *   tables    up to 16384 words: the rows that the commit leaves, word by word
  *   answer    any number of words: the answer book
  * Any lengths are taken, 0 among them: bindings or index of another length, or more words for log or tables, are refused with 14. An address may not be null, even beside length 0.
  *

@@ -132,7 +132,7 @@ fn words(values: &[Value]) -> Vec<u32> {
     values.iter().map(|value| value.rep()).collect()
 }
 
-/// The merge rules: 0 keep, 1 replace, 2 least, 3 greatest.
+/// By the rule's number: the old word, the new one, the smaller, the larger.
 fn merge_rule(rule: u32, keys: usize) -> Box<MergeFn> {
     Box::new(move |_, old, new, out| {
         out.extend_from_slice(old);

@@ -1,5 +1,5 @@
-//! The published files of core-relations, unchanged, with stand-ins for what they import; `drive`
-//! runs books on them.
+//! The published files of core-relations, unchanged, and around them what they need of other
+//! modules and crates; `drive` runs books on them.
 #![allow(dead_code, unused_imports, unused_macros)]
 
 // The published files, linked into place when this is built ...

@@ -147,7 +147,7 @@ pub fn arranged(answer: &[u32], book: &Book) -> Vec<u32> {
     words
 }
 
-/// The first thing that differs, each side under its name. Row order within a table is open.
+/// The first thing that differs, each side under its name. A table's rows may come in any order.
 pub fn difference(mine: &Seen, theirs: &Seen, names: [&str; 2]) -> Option<String> {
     let tell = |what: String, a: String, b: String| Some(format!("{what}: {} {a}, {} {b}", names[0], names[1]));
     for (i, (a, b)) in mine.steps.iter().zip(&theirs.steps).enumerate() {

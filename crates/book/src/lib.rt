@@ -7,7 +7,7 @@ ghost use Rattle.model.specs.Book.Words.{bytesRefusal, wordsOf};
 ghost use Rattle.rules.specs.Rules.{verdictOf};
 use rules::Verdict;
 
-// Refusal 1: no bytes, over 65536, or not a multiple of 4.
+// Refusal 1: a book has from 1 to 16384 whole words.
 pub fn length_refusal(book: &[u8]) -> Verdict
     ensures { λ r. ⌜ verdictOf r ≡ bytesRefusal (now (book .entry)) ⌝ }
 {

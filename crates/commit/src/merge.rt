@@ -6,7 +6,7 @@ ghost use lib.Seq.{sets};
 ghost use Rattle.model.specs.Book.Decode.{part};
 ghost use Rattle.model.specs.Commit.{mergeWord, mergeWords};
 
-// By a table's rule: 0 keep, 1 replace, 2 least, 3 greatest.
+// What a table's rule makes of two values: 1 takes the new one, 2 the smaller, 3 the larger, and 0 stays with the old.
 fn merge_word(rule: u32, old: u32, new: u32) -> u32
     ensures { λ r. ⌜ r ≡ mergeWord rule old new ⌝ }
 {

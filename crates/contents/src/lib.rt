@@ -23,7 +23,7 @@ pub struct Sizes {
     pub steps: u32,
 }
 
-// Kinds never fall, except that 4 and 5 alternate freely: they are one group. 0 is no kind.
+// Entries go by groups of kinds: 4 and 5, the steps, are one, and each other kind is one of its own. 0 is no kind.
 pub fn group(kind: u32) -> u32
     ensures { λ r. ⌜ (r ≡ contents.group kind) × (r < 5) ⌝ }
 {

@@ -1,4 +1,4 @@
-// Counters: each hands out its next number and goes up by one, until it is spent.
+// Counters: each gives every number once, one after the other, until it is spent.
 ghost use mathlib.Core.Path.{_≡_};
 ghost use lib.ListN.{getD, set};
 ghost use Rattle.model.specs.Machine.Values.{draw};

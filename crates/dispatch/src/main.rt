@@ -1,4 +1,4 @@
-// Reads a book on standard input and prints what comes of it: its lines, or its refusal.
+// A book comes in on standard input, and what comes of it is printed: its lines, or its refusal.
 fn main() {
     session::serve(libc::STDIN_FILENO, b"standard input");
 }

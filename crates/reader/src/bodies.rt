@@ -69,7 +69,7 @@ fn block(end: usize, words: &[u32], n: usize, s: Scan) -> Scan
     cleans(end, words, n, t)
 }
 
-// A count of 0 to 16, then as many clean words.
+// A count, 16 at most, and as many clean words.
 fn values(end: usize, words: &[u32], s: Scan) -> Scan
     ensures { λ r. ⌜ scanOf r ≡ spec.list end (now (words .entry)) 16 (spec.word end (now (words .entry)) spec.clean) (scanOf s) ⌝ }
 {
@@ -121,7 +121,7 @@ fn rule(end: usize, words: &[u32], sizes: Sizes, at: usize) -> Scan
     finish(end, t)
 }
 
-// Rule, lanes, v, then v columns of one word a lane.
+// The rule, how many lanes and variables there are, and a column for each variable.
 fn batch(end: usize, words: &[u32], sizes: Sizes, at: usize) -> Scan
     requires { ⌜ at < 2 ^ 32 ⌝ }
     ensures { λ r. ⌜ scanOf r ≡ spec.scanBatch end (now (words .entry)) (sizesOf sizes) at ⌝ }
@@ -134,7 +134,7 @@ fn batch(end: usize, words: &[u32], sizes: Sizes, at: usize) -> Scan
     block(end, words, columns * lanes, u)
 }
 
-// Table, n, n key words, m, m write values with tag 1 or 2.
+// The table, the words of a key, and write values, which are constants or counters; a count comes before each list.
 fn prediction(end: usize, words: &[u32], sizes: Sizes, at: usize) -> Scan
     ensures { λ r. ⌜ scanOf r ≡ spec.scanPrediction end (now (words .entry)) (sizesOf sizes) at ⌝ }
 {

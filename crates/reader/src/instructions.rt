@@ -44,7 +44,7 @@ fn pair(end: usize, words: &[u32], sizes: Sizes, from: u32, to: u32, s: Scan) ->
     scan::word(end, words, tagged(sizes, tag), t)
 }
 
-// A count of 0 to 16, then as many entries or write values.
+// A count, 16 at most, and as many entries or write values.
 pub fn pairs(end: usize, words: &[u32], sizes: Sizes, from: u32, to: u32, s: Scan) -> Scan
     ensures { λ r. ⌜ scanOf r ≡ spec.list end (now (words .entry)) 16 (spec.pair end (now (words .entry)) (sizesOf sizes) from to) (scanOf s) ⌝ }
 {
@@ -117,7 +117,7 @@ fn instr(end: usize, words: &[u32], sizes: Sizes, s: Scan) -> Scan
     t
 }
 
-// A count of 0 to 64, then as many instructions.
+// A count, 64 at most, and as many instructions.
 pub fn instrs(end: usize, words: &[u32], sizes: Sizes, s: Scan) -> Scan
     ensures { λ r. ⌜ scanOf r ≡ spec.list end (now (words .entry)) 64 (spec.instr end (now (words .entry)) (sizesOf sizes)) (scanOf s) ⌝ }
 {
