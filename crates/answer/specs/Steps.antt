@@ -23,6 +23,6 @@ predictionWords made row = flag made ∷ row
 abbrev pub columnWords : List ℕ → ℕ → Bool → ℕ → List ℕ
 columnWords m lanes known v = cond known (v ∷ part m (256 * v) lanes) []
 
--- of a batch: survivors, lane count, number of bound variables, each ascending with its column, a word for each lane
+-- of a batch: how many lanes survive, how many there are, how many variables are bound; then these, smallest first, each before its column; then a flag for each lane
 unfoldable pub batchWords : (lanes : ℕ) (known : List Bool) (m : List ℕ) (live : List Bool) → List ℕ
 batchWords lanes known m live = count live ∷ lanes ∷ howMany (λ v. getD known v false) 32 ∷ runs (λ v. columnWords m lanes (getD known v false) v) 32 ++ tab (λ i. flag (getD live i false)) lanes

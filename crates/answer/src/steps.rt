@@ -114,7 +114,7 @@ fn write_live(mask: Mask, lanes: usize, at: usize, answer: &mut [u32])
     }
 }
 
-// Survivors, lane count, number of bound variables, each with its column, and which lanes are live.
+// How many lanes survive and how many there are, the bound variables with their columns, and which lanes are live.
 pub fn write_batch(
     bindings: &[u32],
     bound: Bound,

@@ -1,4 +1,4 @@
-// A new row is built: a key, then write values left to right. A counter that would pass its limit ends it.
+// A new row: its key, and one word more for each write value in turn. A counter that would pass its limit ends it.
 use args::Args;
 use counter::Counters;
 use counter::Drawn;

@@ -47,7 +47,7 @@ fn difference(x: u32, y: u32) -> Answer
     }
 }
 
-// 2: the first if less than the second.
+// 2: the first word, where the second is larger.
 fn less(x: u32, y: u32) -> Answer
     ensures { λ r. ⌜ answerOf r ≡ model.apply 2 (x ∷ y ∷ []) ⌝ }
 {
@@ -58,7 +58,7 @@ fn less(x: u32, y: u32) -> Answer
     }
 }
 
-// 3: the first if at most the second.
+// 3: the first word, where the second is not smaller.
 fn at_most(x: u32, y: u32) -> Answer
     ensures { λ r. ⌜ answerOf r ≡ model.apply 3 (x ∷ y ∷ []) ⌝ }
 {

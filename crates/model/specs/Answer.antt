@@ -13,7 +13,7 @@ pub record Body : Type 0 where
   pub kind : ℕ
   pub words : List ℕ
 
--- bodies stand in entry order, without gaps; the first begins at the word p
+-- an entry for each body: the first begins at the word p, each other where the one before it ends
 abbrev pub contentsFrom : ℕ → List Body → List ℕ
 contentsFrom p [] = []
 contentsFrom p (b ∷ bs) = b .kind ∷ p ∷ length (b .words) ∷ contentsFrom (p + length (b .words)) bs
@@ -38,7 +38,7 @@ column b v = found (b v) (λ c. (v ∷ c) ∷ []) (λ _. [])
 abbrev pub columns : Bindings → List (List ℕ)
 columns b = join (tab (column b) 32)
 
--- survivors, lane count, number of bound variables, each ascending with its column, a word for each lane; made, the row
+-- how many lanes survive, how many there are, how many variables are bound; then these, smallest first, each before its column; then a flag for each lane. Of a prediction: whether it made the row, and the row
 abbrev pub stepBody : Answer → Body
 stepBody (survivors b live) = record { kind = 6; words = howMany (λ i. getD live i false) (length live) ∷ length live ∷ length (columns b) ∷ join (columns b) ++ map flag live }
 stepBody (predicted made row) = record { kind = 7; words = flag made ∷ row }

@@ -1,4 +1,4 @@
--- The commit: all removals first, then inserts and predicted rows in log order; a key already there merges by the table's rule.
+-- The commit of a log: what its removals leave of a table's rows, and into these the rows of its other records, one after the other, each merged with the row that has its key.
 use Prim.Native.Nat.{ℕ, suc, min, max}
 use mathlib.Core.Bool.{Bool, _&&_, not, cond}
 use mathlib.Core.List.{List, [], _∷_, _++_}
@@ -8,7 +8,7 @@ use Rattle.model.specs.Basics.{iter, when, found, eqList, keepIf}
 use Rattle.model.specs.Book.Syntax.{Table}
 use Rattle.model.specs.Machine.State.{Record}
 
--- 0 keep, 1 replace, 2 least, 3 greatest
+-- by rule 0 the old word, by 1 the new, by 2 the smaller, by 3 the larger
 abbrev pub mergeWord : ℕ → ℕ → ℕ → ℕ
 mergeWord m old new = getD (old ∷ new ∷ min old new ∷ max old new ∷ []) m old
 

@@ -31,7 +31,7 @@ pub data Outcome : Type 0 where
   refused : Refusal → Outcome
   accepted : (words : List ℕ) → Outcome
 
--- 14: bindings or index not 8192 words; log or tables over 16384
+-- 14: 8192 words each of bindings and of index, and no more than 16384 each of log and of tables
 abbrev pub lentRefusal : Lent → Option Refusal
 lentRefusal l = unless (eqb (l .bindings) 8192 && eqb (l .index) 8192 && leb (l .log) 16384 && leb (l .tables) 16384) 14 0
 
@@ -103,7 +103,7 @@ module _ (l : Lent) (book : List ℕ) where
   outcome = found refusal refused (λ _. accepted (answer committed left))
 
 -- ## What a call may return
--- The order of the rows in a table is left open: the rows are the committed ones, each once.
+-- A table's rows may come in any order, as long as each committed row is there once and no other.
 
 abbrev pub Permitted : Lent → List ℕ → Outcome → Type 0
 Permitted l book (refused r) = outcome l book ≡ refused r

@@ -27,7 +27,7 @@ laneCount zero n = 1
 laneCount (suc v) n = n
 
 module _ (w : List ℕ) where
-  -- a batch's own columns, and all lanes live
+  -- the columns that the batch gives, with every lane live
   abbrev pub startBatch : ℕ → ExecutionState → List ℕ → List ℕ → Running
   startBatch at x log index =
       let v = getD w (at + 2) 0 in

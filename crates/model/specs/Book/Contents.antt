@@ -8,7 +8,7 @@ use lib.ListN.{length, getD}
 use Rattle.model.specs.Basics.{found, _else_, least, howMany}
 use Rattle.model.specs.Book.Words.{Refusal, unless}
 
--- kinds never fall, except that 4 and 5 alternate freely: the groups never fall. 0 is no kind
+-- entries go by groups of kinds, which never fall: 4 and 5 are one group, so either may follow the other. 0 is no kind
 abbrev pub group : ℕ → ℕ
 group kind = getD (0 ∷ 1 ∷ 2 ∷ 3 ∷ 4 ∷ 4 ∷ []) kind 0
 
@@ -58,7 +58,7 @@ module _ (w : List ℕ) where
   unfoldable pub countFits : Bool
   countFits = ltb 0 count && leb count 128 && leb (1 + 3 * count) (length w)
 
-  -- 2: 0 for the count or contents past the book; then entries; then 0 for the book's end
+  -- 2: first the count and the room that the contents take, at place 0; then each entry at its own place; then where the last body ends, at 0 again
   unfoldable pub contentsRefusal : Option Refusal
   contentsRefusal =
       unless countFits 2 0 else λ _.

@@ -37,7 +37,7 @@ isRepeat keys rows i = found (find keys (take i rows) (take keys (getD rows i []
 abbrev pub repeated : Table → Option ℕ
 repeated t = least (isRepeat (t .keys) (t .rows)) (length (t .rows))
 
--- v unlike the rule's; v = 0 with lanes; prediction doesn't fit
+-- what 11 asks: a batch gives the columns with which its rule starts, and without columns it names no lanes; a prediction's lists fit its table
 abbrev pub stepFits : List Table → List Rule → Step → Bool
 stepFits ts rs (batch r lanes columns) = eqb (length columns) (ruleAt rs r .starts) && (ltb 0 (length columns) || eqb lanes 0)
 stepFits ts rs (prediction t key vs) = eqb (length key) (tableAt ts t .keys) && eqb (length key + length vs) (width (tableAt ts t))

@@ -96,7 +96,7 @@ module _ (end : ℕ) where
     abbrev pub word : (ℕ → Draw) → Scan → Scan
     word test s = step (test (peek w s)) s
 
-    -- a count of 0 to `most`, then as many
+    -- a count, `most` at the highest, and as many of one kind
     abbrev pub list : ℕ → (Scan → Scan) → Scan → Scan
     list most one s = word (upTo most) s ▹ iter (λ _. one) (peek w s)
 
@@ -129,7 +129,7 @@ module _ (end : ℕ) where
 
       -- ## The bodies; each begins at the word `at`
 
-      -- key count, value count, sum at least 1, merge rule, row count, rows
+      -- how many columns have keys and how many values, not 0 in all; the merge rule; how many rows; the rows
       unfoldable pub scanTable : ℕ → Scan
       scanTable at =
           good at 0 0 ▹ word (upTo 8) ▹ word (upTo 8) ▹ require (ltb 0 (getD w at 0 + getD w (at + 1) 0))
@@ -143,11 +143,11 @@ module _ (end : ℕ) where
       unfoldable pub scanRule : ℕ → Scan
       scanRule at = good at 0 0 ▹ word (upTo 32) ▹ list 64 instr ▹ finish
 
-      -- rule, lanes, v, then v columns of one word a lane
+      -- the rule, how many lanes and variables there are, and a column for each variable
       unfoldable pub scanBatch : ℕ → Scan
       scanBatch at = good at 0 0 ▹ word (below (z .rules)) ▹ word (upTo 256) ▹ word (upTo 32) ▹ block (getD w (at + 2) 0 * getD w (at + 1) 0)
 
-      -- table, n, n key words, m, m write values with tag 1 or 2
+      -- the table, the words of a key, and write values, which are constants or counters; a count comes before each list
       unfoldable pub scanPrediction : ℕ → Scan
       scanPrediction at = good at 0 0 ▹ field table ▹ list 16 (word clean) ▹ list 16 (pair 1 2) ▹ finish
 

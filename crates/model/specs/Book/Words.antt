@@ -32,6 +32,6 @@ unfoldable pub bytesOf : List ℕ → List ℕ
 bytesOf [] = []
 bytesOf (x ∷ xs) = x % 256 ∷ x / 256 % 256 ∷ x / 65536 % 256 ∷ x / 16777216 % 256 ∷ bytesOf xs
 
--- 1: no bytes, over 65536, not a multiple of 4
+-- 1: a book has from 1 to 16384 whole words
 abbrev pub bytesRefusal : List ℕ → Option Refusal
 bytesRefusal b = unless (ltb 0 (length b) && leb (length b) 65536 && eqb (length b % 4) 0) 1 0

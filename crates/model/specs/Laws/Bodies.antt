@@ -1,4 +1,4 @@
--- A body that draws none of refusals 3, 6, 4 and 5 reads to what demand 3 supposes.
+-- What is read from a body that is not refused is as demand 3 supposes it.
 use Prim.Native.Nat.{ℕ, zero, suc, _+_, _*_, _<_, _≤_}
 use mathlib.Core.Path.{_≡_, refl, subst}
 use mathlib.Core.Logic.{_≢_}

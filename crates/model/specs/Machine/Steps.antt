@@ -163,7 +163,7 @@ module _ (E : Env) where
     body (AssertAnyNe d ops) s = lanes (λ i. assertAnyNe (here k j i) d ops) s
     body (ReadCounter c dst) s = frame (s .bindings) (s .live) (replicate (length (s .live)) (some (nextOf (getD (s .counters) c noCounter)))) s
 
-    -- with no lane live the batch has ended
+    -- a batch whose lanes are all dead has ended
     unfoldable pub instruction : Instr → State → State
     instruction ins s = when (isGoing (s .status) && anyLive (s .live)) (λ s′. finish k (dstOf ins) (body ins (clear s′))) s
 

@@ -55,7 +55,7 @@ abbrev pub predictedRows : ℕ → ℕ → List ℕ → List Record → List (Li
 predictedRows k t key [] = []
 predictedRows k t key (r ∷ rs) = keepIf (isRow k t key r) (r .words) (predictedRows k t key rs)
 
--- ## A row is built: key, then write values left to right
+-- ## A new row: its key, and one word more for each write value in turn
 
 pub data Built : Type 0 where
   isStuck isSpent : Built
@@ -65,7 +65,7 @@ abbrev pub push : List ℕ → List Counter → Option ℕ → Built
 push row cs none = isStuck
 push row cs (some w) = built (row ++ (w ∷ [])) cs
 
--- a counter hands out its next and goes up by one, which must not pass the limit
+-- the number that a counter gives, and the counter with the number above it, which must not pass the limit
 abbrev pub draw : Counter → Option (ℕ × Counter)
 draw n = only (ltb n limit) (some (n, suc n))
 
