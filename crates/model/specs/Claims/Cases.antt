@@ -32,47 +32,47 @@ k1Words = 4 ∷ 1 ∷ 13 ∷ 6 ∷ 2 ∷ 19 ∷ 1 ∷ 3 ∷ 20 ∷ 12 ∷ 4 ∷ 
 abbrev pub k1 : Case
 k1 = record { book = k1Words; result = accepted (4 ∷ 1 ∷ 13 ∷ 10 ∷ 2 ∷ 23 ∷ 1 ∷ 6 ∷ 24 ∷ 17 ∷ 8 ∷ 41 ∷ 9 ∷ 1 ∷ 1 ∷ 0 ∷ 3 ∷ 3 ∷ 40 ∷ 5 ∷ 100 ∷ 8 ∷ 101 ∷ 102 ∷ 4 ∷ 4 ∷ 2 ∷ 0 ∷ 3 ∷ 5 ∷ 5 ∷ 8 ∷ 1 ∷ 40 ∷ 100 ∷ 100 ∷ 101 ∷ 1 ∷ 1 ∷ 1 ∷ 1 ∷ 0 ∷ 2 ∷ 0 ∷ 5 ∷ 100 ∷ 2 ∷ 0 ∷ 8 ∷ 101 ∷ []) }
 
--- K2: v = 0, no instructions: 1 survivor
+-- K2: a rule without variables and instructions runs in one lane, which survives
 abbrev pub k2 : Case
 k2 = record { book = 2 ∷ 3 ∷ 7 ∷ 2 ∷ 4 ∷ 9 ∷ 3 ∷ 0 ∷ 0 ∷ 0 ∷ 0 ∷ 0 ∷ []; result = accepted (2 ∷ 6 ∷ 7 ∷ 4 ∷ 8 ∷ 11 ∷ 1 ∷ 1 ∷ 1 ∷ 0 ∷ 1 ∷ 0 ∷ []) }
 
--- K3: lanes 0, v = 1: 0 survivors
+-- K3: a batch of a variable without lanes has no survivors
 abbrev pub k3 : Case
 k3 = record { book = 2 ∷ 3 ∷ 7 ∷ 2 ∷ 4 ∷ 9 ∷ 3 ∷ 1 ∷ 0 ∷ 0 ∷ 0 ∷ 1 ∷ []; result = accepted (2 ∷ 6 ∷ 7 ∷ 4 ∷ 8 ∷ 11 ∷ 1 ∷ 0 ∷ 0 ∷ 1 ∷ 0 ∷ 0 ∷ []) }
 
--- K4: ops empty, divider 0: all drop
+-- K4: nothing to compare: every lane drops
 abbrev pub k4 : Case
 k4 = record { book = 2 ∷ 3 ∷ 7 ∷ 5 ∷ 4 ∷ 12 ∷ 7 ∷ 2 ∷ 1 ∷ 12 ∷ 0 ∷ 0 ∷ 0 ∷ 2 ∷ 2 ∷ 1 ∷ 2 ∷ 1 ∷ 3 ∷ []; result = accepted (2 ∷ 6 ∷ 7 ∷ 11 ∷ 8 ∷ 18 ∷ 1 ∷ 0 ∷ 2 ∷ 2 ∷ 0 ∷ 1 ∷ 2 ∷ 1 ∷ 1 ∷ 3 ∷ 0 ∷ 0 ∷ 0 ∷ []) }
 
--- K5: divider = count: all drop
+-- K5: nothing behind the divider: every lane drops
 abbrev pub k5 : Case
 k5 = record { book = 2 ∷ 3 ∷ 7 ∷ 9 ∷ 4 ∷ 16 ∷ 7 ∷ 2 ∷ 1 ∷ 12 ∷ 2 ∷ 2 ∷ 0 ∷ 0 ∷ 0 ∷ 1 ∷ 0 ∷ 2 ∷ 2 ∷ 1 ∷ 2 ∷ 1 ∷ 3 ∷ []; result = accepted (2 ∷ 6 ∷ 7 ∷ 11 ∷ 8 ∷ 18 ∷ 1 ∷ 0 ∷ 2 ∷ 2 ∷ 0 ∷ 1 ∷ 2 ∷ 1 ∷ 1 ∷ 3 ∷ 0 ∷ 0 ∷ 0 ∷ []) }
 
--- K6: one more: 8
+-- K6: the divider is past its list
 abbrev pub k6 : Case
 k6 = record { book = 2 ∷ 3 ∷ 7 ∷ 9 ∷ 4 ∷ 16 ∷ 7 ∷ 2 ∷ 1 ∷ 12 ∷ 3 ∷ 2 ∷ 0 ∷ 0 ∷ 0 ∷ 1 ∷ 0 ∷ 2 ∷ 2 ∷ 1 ∷ 2 ∷ 1 ∷ 3 ∷ []; result = refused (record { number = 8; place = 9 }) }
 
--- K7: bands of 49, 50, 100, 101
+-- K7: the load bands at their edges; the last lane has none and drops
 abbrev pub k7 : Case
 k7 = record { book = 2 ∷ 3 ∷ 7 ∷ 8 ∷ 4 ∷ 15 ∷ 7 ∷ 1 ∷ 1 ∷ 8 ∷ 6 ∷ 1 ∷ 0 ∷ 0 ∷ 1 ∷ 0 ∷ 4 ∷ 1 ∷ 49 ∷ 50 ∷ 100 ∷ 101 ∷ []; result = accepted (2 ∷ 6 ∷ 7 ∷ 17 ∷ 8 ∷ 24 ∷ 1 ∷ 3 ∷ 4 ∷ 2 ∷ 0 ∷ 49 ∷ 50 ∷ 100 ∷ 101 ∷ 1 ∷ 0 ∷ 1 ∷ 2 ∷ 4294967295 ∷ 1 ∷ 1 ∷ 1 ∷ 0 ∷ 0 ∷ []) }
 
--- K8: sums 4294967294 and 4294967295
+-- K8: the largest sum, and one above it
 abbrev pub k8 : Case
 k8 = record { book = 2 ∷ 3 ∷ 7 ∷ 10 ∷ 4 ∷ 17 ∷ 7 ∷ 2 ∷ 1 ∷ 8 ∷ 0 ∷ 2 ∷ 0 ∷ 0 ∷ 0 ∷ 1 ∷ 2 ∷ 0 ∷ 2 ∷ 2 ∷ 4294967293 ∷ 4294967293 ∷ 1 ∷ 2 ∷ []; result = accepted (2 ∷ 6 ∷ 7 ∷ 14 ∷ 8 ∷ 21 ∷ 1 ∷ 1 ∷ 2 ∷ 3 ∷ 0 ∷ 4294967293 ∷ 4294967293 ∷ 1 ∷ 1 ∷ 2 ∷ 2 ∷ 4294967294 ∷ 4294967295 ∷ 1 ∷ 0 ∷ 0 ∷ []) }
 
--- K9: a dst, bound earlier, in args of 1: 10
+-- K9: a lookup-or-insert reads the variable that it writes
 abbrev pub k9 : Case
 k9 = record { book = 4 ∷ 1 ∷ 13 ∷ 4 ∷ 2 ∷ 17 ∷ 1 ∷ 3 ∷ 18 ∷ 15 ∷ 4 ∷ 33 ∷ 4 ∷ 1 ∷ 1 ∷ 0 ∷ 0 ∷ 5 ∷ 1 ∷ 2 ∷ 13 ∷ 0 ∷ 1 ∷ 1 ∷ 0 ∷ 1 ∷ 0 ∷ 1 ∷ 1 ∷ 1 ∷ 7 ∷ 1 ∷ 1 ∷ 0 ∷ 1 ∷ 1 ∷ 4 ∷ []; result = refused (record { number = 10; place = 23 }) }
 
--- K10: a dst, bound earlier, in args of 3: passes
+-- K10: a plain lookup may read the variable that it writes
 abbrev pub k10 : Case
 k10 = record { book = 3 ∷ 1 ∷ 10 ∷ 6 ∷ 3 ∷ 16 ∷ 9 ∷ 4 ∷ 25 ∷ 5 ∷ 1 ∷ 1 ∷ 0 ∷ 1 ∷ 4 ∷ 9 ∷ 1 ∷ 1 ∷ 3 ∷ 0 ∷ 1 ∷ 0 ∷ 0 ∷ 1 ∷ 0 ∷ 0 ∷ 2 ∷ 1 ∷ 4 ∷ 5 ∷ []; result = accepted (3 ∷ 1 ∷ 10 ∷ 6 ∷ 6 ∷ 16 ∷ 8 ∷ 8 ∷ 24 ∷ 1 ∷ 1 ∷ 1 ∷ 0 ∷ 1 ∷ 4 ∷ 9 ∷ 1 ∷ 2 ∷ 1 ∷ 0 ∷ 9 ∷ 4294967295 ∷ 1 ∷ 0 ∷ 0 ∷ []) }
 
--- K11: current value = key count as the first write value: 9
+-- K11: the first write value asks for the word that it is about to write
 abbrev pub k11 : Case
 k11 = record { book = 3 ∷ 1 ∷ 10 ∷ 4 ∷ 3 ∷ 14 ∷ 12 ∷ 4 ∷ 26 ∷ 4 ∷ 1 ∷ 1 ∷ 0 ∷ 0 ∷ 1 ∷ 1 ∷ 1 ∷ 0 ∷ 1 ∷ 0 ∷ 0 ∷ 1 ∷ 3 ∷ 1 ∷ 1 ∷ 1 ∷ 0 ∷ 1 ∷ 1 ∷ 4 ∷ []; result = refused (record { number = 9; place = 16 }) }
 
--- K12: counter at 4294967294, one lane, which misses: 13
+-- K12: the counter of the one lane that misses is spent
 abbrev pub k12 : Case
 k12 = record { book = 4 ∷ 1 ∷ 13 ∷ 4 ∷ 2 ∷ 17 ∷ 1 ∷ 3 ∷ 18 ∷ 12 ∷ 4 ∷ 30 ∷ 4 ∷ 1 ∷ 1 ∷ 0 ∷ 0 ∷ 4294967294 ∷ 1 ∷ 1 ∷ 1 ∷ 0 ∷ 1 ∷ 0 ∷ 0 ∷ 1 ∷ 2 ∷ 0 ∷ 1 ∷ 1 ∷ 0 ∷ 1 ∷ 1 ∷ 5 ∷ []; result = refused (record { number = 13; place = 3 }) }
 

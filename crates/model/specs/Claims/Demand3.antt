@@ -23,7 +23,7 @@ use Rattle.model.specs.Outcome.{bookRefusal}
 abbrev pub Answers : Type 0
 Answers = Site → (call func : ℕ) (args : List ℕ) → Option ℕ
 
--- none, or a word other than the stale mark
+-- on clean words it gives no answer or a clean one
 abbrev pub NeverStale : Answers → Type 0
 NeverStale answer = (o : Site) (call func : ℕ) (args : List ℕ) (w : ℕ) → All Clean args → answer o call func args ≡ some w → Clean w
 
@@ -34,7 +34,7 @@ Given (Entry (Const c)) = Clean c
 Given (IncCounter c) = Unit {0}
 Given (CurrentVal x) = ⊥
 
--- a step with which a book draws none of refusals 3, 6, 4 and 11. What they ask beyond this (the limits on lanes, key words and write values, that a counter is there), and 2's limit on the number of steps, is not needed
+-- what refusals 3, 6, 4 and 11 ask of a step, as far as it is needed. What they ask beyond this (the limits on lanes, key words and write values, that a counter is there), and 2's limit on the number of steps, is left out
 abbrev pub StepOk : List Table → List Rule → Step → Type 0
 StepOk ts rs (batch r n columns) = record {
   rule : r < length rs;
@@ -57,14 +57,14 @@ StepOk ts rs (prediction t key vs) = record {
 abbrev pub Within : List Bool → List Bool → Type 0
 Within m m′ = (i : ℕ) → T (getD m i false) → T (getD m′ i false)
 
--- what a live lane's entries stand for, and the row that its dst comes from
+-- no word that a live lane read, from its entries or a row, is the stale mark
 abbrev pub NotStale : Event → Type 0
 NotStale (mask k m) = Unit {0}
 NotStale (reads o ws) = All Clean ws
 NotStale (took o ws) = All Clean ws
 NotStale (asks o t key ws) = All Clean ws
 
--- exactly one predicted row has the table and key, and it is the row read
+-- the row that was read is the only predicted row with that table and key
 abbrev pub OneRow : Env → List Record → Event → Type 0
 OneRow E log (mask k m) = Unit {0}
 OneRow E log (reads o ws) = Unit {0}

@@ -47,7 +47,7 @@ module _ (z : Sizes) where
   pub data Pair (a b : ℕ) : List Word → Type 0 where
     pair : (t x : ℕ) → a ≤ t → t ≤ b → Pair a b (plainly t ∷ record { word = x; role = tagRole z t } ∷ [])
 
-  -- a count of 0 to 16, then as many
+  -- a count up to 16, and so many elements
   pub data Listed (F : List Word → Type 0) : List Word → Type 0 where
     listed : (n : ℕ) (ms : List Word) → n ≤ 16 → Times F n ms → Listed F (plainly n ∷ ms)
 

@@ -127,7 +127,7 @@ numberOf (inRun k counterSpent) = 13
 numberOf tablesFull = 15
 numberOf answerFull = 16
 
--- its place: entries and bodies by their position in the contents; words, rows and instructions by the book word they start at
+-- its place: of an entry or a body its number in the contents, of the rest the first of its words in the book
 abbrev pub placeOf : List ℕ → Fault → ℕ
 placeOf w lengths = 0
 placeOf w bytes = 0
@@ -180,7 +180,7 @@ AtFault l book (inRun k c) = (k < stepCount (wordsOf book)) × (after (wordsOf b
 AtFault l book tablesFull = l .tables < rowWords (final (wordsOf book))
 AtFault l book answerFull = l .answer < length (answer (final (wordsOf book)) (after (wordsOf book) (stepCount (wordsOf book))))
 
--- ## The order: 14, 1, 2; then bodies, each 3, 6, 4, 5; then rules by instruction, each 8, 7, 10, 9; then 11; then the run, 12 or 13; 15; 16
+-- ## Which fault comes first: by the stage at which it is looked for, and within a stage by what stands first in the book
 
 abbrev pub stageOf : Fault → ℕ
 stageOf lengths = 0

@@ -175,7 +175,7 @@ module _ (E : Env) where
     abbrev pub TakesFrom : (n : ℕ) {k j i : ℕ} {ins : Instr} → Comes k j i ins → LookupAt → List ℕ → Type 0
     TakesFrom n {k} {j} {i} c l r = In (took (here k j i) r) (run E counters steps n .trace) × (post c .status ≡ going → getElem? r (l .col) ≡ valueOf (post c .bindings) i (Var (l .dst)))
 
-    -- and the row that its dst comes from: the committed row, or of a lookup-or-insert that finds none the predicted row that it asks for, unless the run was cut off at its row or at that of a lane before it
+    -- and the row of which its dst is a column: the committed row, or of a lookup-or-insert that finds none the predicted row that it asks for, unless the run was cut off at its row or at that of a lane before it
     abbrev pub RowsNoted : Type 0
     RowsNoted = (n k j i : ℕ) (ins : Instr) (c : Comes k j i ins) → post c .status ≢ stuck → k < n
         → (l : LookupAt) → lookupOf ins ≡ some l

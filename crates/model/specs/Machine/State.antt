@@ -28,7 +28,7 @@ recordSize t kind = cond (eqb kind 1) (t .keys) (width t)
 pub data Event : Type 0 where
   mask : (step : ℕ) (live : List Bool) → Event  -- the live lanes as a batch begins, and after each instruction
   reads : (at : Site) (words : List ℕ) → Event  -- what entries stand for in a live lane
-  took : (at : Site) (words : List ℕ) → Event  -- the row that its dst comes from, or that a prediction answers
+  took : (at : Site) (words : List ℕ) → Event  -- the row of which its dst is a column, or that a prediction answers
   asks : (at : Site) (table : ℕ) (key words : List ℕ) → Event  -- no committed row has the key: the predicted row that is read
 
 -- whether a run goes on, or why it ended early: stuck, or refusal 13, or refusal 12
