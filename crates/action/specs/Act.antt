@@ -6,8 +6,7 @@ use lib.ListN.{getD}
 use Rattle.ids.specs.declared.TableId.{TableId}
 use Rattle.ids.specs.declared.ColumnId.{ColumnId}
 use Rattle.mask.specs.Masks.{firstLanes, united, without}
-use Rattle.tables.specs.Tables.{infoOf}
-use Rattle.hash_index.specs.Book.{rowsBefore}
+use Rattle.predicted.specs.Row.{soughtIn}
 use Rattle.instr.specs.declared.Entries.{Entries}
 use Rattle.instr.specs.declared.Instr.{Instr}
 use Rattle.instr.specs.declared.Instr.the-variants.{LookupOrInsertDefault, LookupWithDefault, Lookup, LookupWithFallback, Insert, InsertIfEq, Remove, External, ExternalWithFallback, AssertEq, AssertNe, AssertAnyNe, ReadCounter}
@@ -40,11 +39,11 @@ withServed s l = record { live = l .live; state = s .state; log = s .log; index 
 
 -- a column of the committed row of table t
 abbrev pub rowAsk : List ℕ → TableId → Entries → ColumnId → Ask
-rowAsk w t key col = AskRow (infoOf w (t .0)) (rowsBefore w (t .0)) key col
+rowAsk w t key col = AskRow (soughtIn w t) key col
 
 -- the predicted row that a lane asks for
 abbrev pub asking : List ℕ → TableId → Entries → Entries → ColumnId → Asking
-asking w t args vals col = record { row = record { table = t; keys = infoOf w (t .0) .keys; vals = vals }; key = args; col = col }
+asking w t args vals col = record { row = record { of = soughtIn w t; vals = vals }; key = args; col = col }
 
 module _ (w m : List ℕ) where
   abbrev pub unanswered : Ask → List Bool → List Bool

@@ -1,4 +1,4 @@
--- The tables of a book that can be read, as lookups ask them.
+-- The tables of a book that can be read can be searched.
 use Prim.Native.Nat.{ℕ, _<_}
 use mathlib.Core.List.{List}
 use Rattle.model.specs.Book.Contents.{firstOf, endOf, tableCount}
@@ -7,8 +7,15 @@ use Rattle.model.specs.Laws.Book.{Readable}
 use Rattle.model.specs.Laws.Kinds.{table-read}
 use Rattle.tables.specs.Tables.{Stands, infoOf}
 use Rattle.tables.specs.TablesLaws.{stands}
+use Rattle.hash_index.specs.Book.{BookIndex}
+use Rattle.hash_index.specs.BookLaws.{book-has}
+use Rattle.ids.specs.declared.TableId.{TableId}
+use Rattle.predicted.specs.Row.{soughtIn, Searchable}
 
 pub table-stands : (w : List ℕ) → Readable w → (t : ℕ) → t < tableCount w → Stands w (infoOf w t)
 table-stands w h t l =
     let r = table-read w (h .contents) (h .bodies) t l in
     stands w (firstOf w t) (sizes w) (endOf w t) (r .1) (r .0 .within)
+
+pub searchable : (w committed : List ℕ) → Readable w → BookIndex w (tableCount w) committed → (t : TableId) → t .0 < tableCount w → Searchable w committed (soughtIn w t)
+searchable w committed h b t l = record { stands = table-stands w h (t .0) l; indexed = book-has w (tableCount w) committed b (t .0) l }

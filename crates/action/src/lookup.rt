@@ -7,6 +7,7 @@ use lanes::Ask;
 use mask::Mask;
 use predict::Asking;
 use predict::Row;
+use predicted::Sought;
 ghost use mathlib.Core.Path.{_≡_};
 ghost use Prim.Native.Nat.{_≤_, _<_};
 ghost use lib.ListN.{length};
@@ -14,7 +15,7 @@ ghost use Rattle.model.specs.Book.Contents.{tableCount};
 ghost use Rattle.model.specs.Laws.Book.{Readable};
 ghost use Rattle.instr.specs.Stands.{Short};
 ghost use Rattle.hash_index.specs.Book.{BookIndex};
-ghost use Rattle.lanes.specs.Lanes.{AskFits, IndexFor};
+ghost use Rattle.lanes.specs.Lanes.{AskFits};
 ghost use Rattle.predict.specs.Predict.{Ready};
 ghost use Rattle.action.specs.Act.{Lanes, rowAsk, eitherLanes, eitherWords, serving};
 
@@ -23,8 +24,7 @@ pub fn row_ask(words: &[u32], table: TableId, key: Entries, col: ColumnId) -> As
     ensures { λ r. ⌜ r ≡ rowAsk (now (words .entry)) table key col ⌝ }
 {
     Ask::Lookup {
-        table: tables::info_of(words, table),
-        first: hash_index::rows_before(words, table),
+        of: Sought::of(words, table),
         key,
         col,
     }
@@ -40,7 +40,7 @@ pub fn fill_or_else(
     mask: Mask,
     out: &mut [u32],
 ) -> Mask
-    requires { ⌜ AskFits (now words) ask × IndexFor (now words) ask (now committed) × AskFits (now words) other × IndexFor (now words) other (now committed) × (length (now out) ≡ 256) ⌝ }
+    requires { ⌜ AskFits (now words) (now committed) ask × AskFits (now words) (now committed) other × (length (now out) ≡ 256) ⌝ }
     ensures words { λ r. ⌜ now (out .exit) ≡ eitherWords (now (words .entry)) (now (bindings .entry)) ask other (mask .live) (now (out .entry)) ⌝ }
     ensures lanes { λ r. ⌜ r .live ≡ eitherLanes (now (words .entry)) (now (bindings .entry)) ask other (mask .live) ⌝ }
 {
@@ -69,18 +69,15 @@ pub fn lookup_or_insert_default(
     ensures is { λ r. ⌜ _≡_ {A = Lanes} (record { live = mask .live; state = r; log = now (log .exit); index = now (index .exit); out = now (out .exit) }) (serving (now (words .entry)) (now (bindings .entry)) table args default col (record { live = mask .live; state = state; log = now (log .entry); index = now (index .entry); out = now (out .entry) })) ⌝ }
     ensures fits { λ r. ⌜ r .used ≤ length (now (log .entry)) ⌝ }
 {
-    let ask = row_ask(words, table, args, col);
+    let of = Sought::of(words, table);
+    let ask = Ask::Lookup { of, key: args, col };
     let found = lanes::fill(words, committed, bindings, ask, mask, out);
-    let info = tables::info_of(words, table);
     predict::serve_lanes(
         words,
+        committed,
         bindings,
         Asking {
-            row: Row {
-                table,
-                keys: info.keys,
-                vals: default,
-            },
+            row: Row { of, vals: default },
             key: args,
             col,
         },

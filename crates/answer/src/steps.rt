@@ -6,30 +6,19 @@ ghost use lib.Seq.{sets};
 ghost use mathlib.Core.Bool.{false};
 ghost use Rattle.model.specs.Basics.{tab, howMany};
 ghost use Rattle.model.specs.Answer as model;
-ghost use Rattle.tables.specs.Tables.{Holds, rowOf};
 ghost use Rattle.answer.specs.Runs.{runs};
 ghost use Rattle.answer.specs.Steps.{placed, columnWords, batchWords, predictionWords};
 use crate::put;
 use bound::Bound;
 use ids::Variable;
 use mask::Mask;
-use tables::Place;
 
 // Whether the row was made by this prediction, and the row.
-pub fn write_prediction<'a>(
-    words: &'a [u32],
-    log: &'a [u32],
-    place: Place,
-    width: usize,
-    made: bool,
-    at: usize,
-    answer: &mut [u32],
-) -> usize
-    requires { ⌜ Holds (now words) (now log) width place × (at ≤ 2 ^ 32) ⌝ }
-    ensures words { λ _. ⌜ now (answer .exit) ≡ placed (predictionWords made (rowOf (now (words .entry)) (now (log .entry)) width place)) at (now (answer .entry)) ⌝ }
-    ensures end { λ r. ⌜ r ≡ at + length (predictionWords made (rowOf (now (words .entry)) (now (log .entry)) width place)) ⌝ }
+pub fn write_prediction(row: &[u32], made: bool, at: usize, answer: &mut [u32]) -> usize
+    requires { ⌜ at ≤ 2 ^ 32 ⌝ }
+    ensures words { λ _. ⌜ now (answer .exit) ≡ placed (predictionWords made (now (row .entry))) at (now (answer .entry)) ⌝ }
+    ensures end { λ r. ⌜ r ≡ at + length (predictionWords made (now (row .entry))) ⌝ }
 {
-    let row = tables::row_of(words, log, width, place);
     let end = at + 1 + row.len();
     if answer.len() < end {
         return end;

@@ -15,17 +15,8 @@ use Rattle.bindings.specs.Columns.{wordOf}
 use Rattle.instr.specs.declared.QueryEntry.{QueryEntry}
 use Rattle.instr.specs.declared.QueryEntry.the-variants as entry
 use Rattle.instr.specs.Meaning.{entryOf}
-use Rattle.tables.specs.declared.TableInfo.{TableInfo}
-use Rattle.tables.specs.declared.Found.{Found}
-use Rattle.tables.specs.declared.Found.the-variants.{At, Nothing}
-use Rattle.tables.specs.Tables.{Stands, foundRow}
-use Rattle.tables.specs.TablesLaws.{found-within}
 use Rattle.lanes.specs.declared.Ask.{Ask}
-use Rattle.lanes.specs.Lanes.{Begins, asked, entryAsk, AskFits, IndexFor}
-
-pub begins : (w : List ℕ) (t : TableInfo) (key : List ℕ) (row : Found) → Stands w t → row ≡ foundRow w t key → Begins w row
-begins w t key (At p) s e = omega (arith, found-within w t key p (sym e), s .rows)
-begins w t key Nothing s e = tt
+use Rattle.lanes.specs.Lanes.{asked, entryAsk, AskFits}
 
 -- ## An entry that is asked for
 
@@ -35,13 +26,13 @@ asked-entry w m (entry.Var v) i = refl
 asked-entry w m (entry.Const x) i = refl
 
 -- it asks for no table
-pub entry-fits : (w index : List ℕ) (a : Ask) (e : QueryEntry) → a ≡ entryAsk e → AskFits w a × IndexFor w a index
+pub entry-fits : (w committed : List ℕ) (a : Ask) (e : QueryEntry) → a ≡ entryAsk e → AskFits w committed a
 unfolding entryAsk
-entry-fits w index a e q = rw q (by e)
+entry-fits w committed a e q = rw q (by e)
   where
-    by : (e : QueryEntry) → AskFits w (entryAsk e) × IndexFor w (entryAsk e) index
-    by (entry.Var v) = (tt, tt)
-    by (entry.Const x) = (tt, tt)
+    by : (e : QueryEntry) → AskFits w committed (entryAsk e)
+    by (entry.Var v) = tt
+    by (entry.Const x) = tt
 
 -- ## Pairs of two lists
 

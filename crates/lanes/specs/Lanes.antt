@@ -1,10 +1,10 @@
 -- What each lane is answered, and whether it passes a test: w is the book's words, m the memory of the bindings.
-use Prim.Native.Nat.{ℕ, _+_, _*_, _≤_}
+use Prim.Native.Nat.{ℕ, _+_, _*_}
 use mathlib.Core.Bool.{Bool, true, false, _&&_, not}
-use mathlib.Core.Option.{Option, none, some}
-use mathlib.Core.List.{List}
+use mathlib.Core.Option.{Option, some}
+use mathlib.Core.List.{List, []}
 use lib.Dec.{eqb}
-use lib.ListN.{length, getD, take, drop}
+use lib.ListN.{getD, getElem?, take, drop}
 use Rattle.model.specs.Basics.{found, only, tab}
 use Rattle.model.specs.Machine.Functions.{apply}
 use Rattle.model.specs.Machine.Steps.{anyNe}
@@ -16,32 +16,20 @@ use Rattle.instr.specs.declared.QueryEntry.the-variants as entry
 use Rattle.instr.specs.declared.Entries.{Entries}
 use Rattle.instr.specs.Meaning.{entryOf}
 use Rattle.instr.specs.Stands.{Short}
-use Rattle.tables.specs.declared.Found.{Found}
-use Rattle.tables.specs.declared.Found.the-variants.{At, Nothing}
-use Rattle.tables.specs.Tables.{Stands, foundRow}
-use Rattle.hash_index.specs.Index.{IndexAmong}
+use Rattle.predicted.specs.Home.{homeOf}
+use Rattle.predicted.specs.Row.{Searchable, rowOf}
 use Rattle.lanes.specs.declared.Ask.{Ask}
 use Rattle.lanes.specs.declared.Ask.the-variants.{Lookup, External, Var, Const}
 use Rattle.lanes.specs.declared.Test.{Test}
 use Rattle.lanes.specs.declared.Test.the-variants.{Eq, Ne, AnyNe}
 
--- a row that was found begins in the words
-abbrev pub Begins : List ℕ → Found → Type 0
-Begins w (At p) = p ≤ length w
-Begins w Nothing = Unit {0}
-
--- the committed row's column
-abbrev pub columnOf : List ℕ → ℕ → Found → Option ℕ
-columnOf w col (At p) = some (getD w (p + col) 0)
-columnOf w col Nothing = none
-
 module _ (w m : List ℕ) where
   abbrev pub listed : ℕ → Entries → Args
   listed i l = fetched w m i (l .at) (l .count)
 
-  -- what lane i is answered
+  -- what lane i is answered; the row is sought in no log
   unfoldable pub asked : Ask → ℕ → Option ℕ
-  asked (Lookup table first key col) i = columnOf w (col .0) (foundRow w table (listed i key .vals))
+  asked (Lookup of key col) i = getElem? (rowOf homeOf w [] [] of (listed i key .vals)) (col .0)
   asked (External func args) i = apply (func .0) (asList (listed i args))
   asked (Var v) i = some (getD m (256 * v .0 + i) 0)
   asked (Const x) i = some x
@@ -57,19 +45,12 @@ unfoldable pub entryAsk : QueryEntry → Ask
 entryAsk (entry.Var v) = Var v
 entryAsk (entry.Const x) = Const x
 
--- what the code may suppose: a table stands in the words, a list is short
-abbrev pub AskFits : List ℕ → Ask → Type 0
-AskFits w (Lookup table first key col) = Stands w table × Short key
-AskFits w (External func args) = Short args
-AskFits w (Var v) = Unit {0}
-AskFits w (Const x) = Unit {0}
-
--- an index that has the rows of the table that is asked, or none
-abbrev pub IndexFor : List ℕ → Ask → List ℕ → Type 0
-IndexFor w (Lookup table first key col) index = IndexAmong w table first index
-IndexFor w (External func args) index = Unit {0}
-IndexFor w (Var v) index = Unit {0}
-IndexFor w (Const x) index = Unit {0}
+-- what the code may suppose: a table can be searched, by the index of committed rows or without, and a list is short
+abbrev pub AskFits : List ℕ → List ℕ → Ask → Type 0
+AskFits w committed (Lookup of key col) = Searchable w committed of × Short key
+AskFits w committed (External func args) = Short args
+AskFits w committed (Var v) = Unit {0}
+AskFits w committed (Const x) = Unit {0}
 
 abbrev pub TestFits : Test → Type 0
 TestFits (Eq l r) = Unit {0}

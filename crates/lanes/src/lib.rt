@@ -8,12 +8,11 @@ use ids::Variable;
 use instr::Entries;
 use instr::QueryEntry;
 use mask::Mask;
-use tables::Found;
-use tables::TableInfo;
+use predicted::Sought;
 ghost use mathlib.Core.Path.{_≡_};
 ghost use mathlib.Core.Bool.{false, _&&_, not};
 ghost use Prim.Native.Nat.{_+_, _*_, _≤_, _<_, min};
-ghost use lib.ListN.{length, getD, take, drop};
+ghost use lib.ListN.{length, getD, getElem?, take, drop};
 ghost use Rattle.model.specs.Basics.{only};
 ghost use Rattle.model.specs.Machine.Steps.{anyNe};
 ghost use Rattle.args.specs.Args.{asList};
@@ -21,13 +20,12 @@ ghost use Rattle.functions.specs.Answers.{answerOf};
 ghost use Rattle.bindings.specs.Columns.{wordOf};
 ghost use Rattle.instr.specs.Meaning.{entryOf};
 ghost use Rattle.instr.specs.Stands.{Short};
-ghost use Rattle.lanes.specs.Lanes.{listed, Begins, entryAsk, columnOf, asked, AskFits, IndexFor, holds, TestFits, isSome, orElse, answeredLanes, answeredWords, kept};
+ghost use Rattle.lanes.specs.Lanes.{listed, entryAsk, asked, AskFits, holds, TestFits, isSome, orElse, answeredLanes, answeredWords, kept};
 
-// What a lane asks for: a column of the committed row with a key, what a function answers, a variable's word, or a constant. The table's first row has the number `first` among the rows of all tables.
+// What a lane asks for: a column of the committed row with a key, what a function answers, a variable's word, or a constant.
 pub enum Ask {
     Lookup {
-        table: TableInfo,
-        first: usize,
+        of: Sought,
         key: Entries,
         col: ColumnId,
     },
@@ -74,33 +72,29 @@ pub fn value(bindings: &[u32], e: QueryEntry, lane: Lane) -> u32
     }
 }
 
-// The column of the row that was found.
-fn column(words: &[u32], row: Found, col: ColumnId) -> Answer
-    requires { ⌜ Begins (now words) row ⌝ }
-    ensures { λ r. ⌜ answerOf r ≡ columnOf (now (words .entry)) (col .0) row ⌝ }
+// The column of a row, which has no words where there is none.
+fn column(row: &[u32], col: ColumnId) -> Answer
+    ensures { λ r. ⌜ answerOf r ≡ getElem? (now (row .entry)) (col .0) ⌝ }
 {
-    match row {
-        Found::At(p) => Answer::Word(words::word(words, p + words::size(col.0))),
-        Found::Nothing => Answer::Nothing,
+    let c = words::size(col.0);
+    if c < row.len() {
+        return Answer::Word(row[c]);
     }
+    Answer::Nothing
 }
 
 // What a lane is answered.
 fn answer(words: &[u32], committed: &[u32], bindings: &[u32], ask: Ask, lane: Lane) -> Answer
-    requires { ⌜ AskFits (now words) ask × IndexFor (now words) ask (now committed) ⌝ }
+    requires { ⌜ AskFits (now words) (now committed) ask ⌝ }
     ensures { λ r. ⌜ answerOf r ≡ asked (now (words .entry)) (now (bindings .entry)) ask (lane .0) ⌝ }
 {
     match ask {
-        Ask::Lookup {
-            table,
-            first,
-            key,
-            col,
-        } => {
+        Ask::Lookup { of, key, col } => {
             let args = fetch(words, bindings, key, lane);
             let vals = args.vals;
-            let row = hash_index::look_up_among(words, committed, table, first, &vals);
-            column(words, row, col)
+            // the log is not looked at
+            let row = predicted::row_of(words, &words[..0], committed, &words[..0], of, &vals);
+            column(row, col)
         }
         Ask::External { func, args } => functions::invoke(func, fetch(words, bindings, args, lane)),
         Ask::Var(v) => Answer::Word(bindings::variable(bindings, v, lane)),
@@ -117,7 +111,7 @@ fn answer_live(
     live: bool,
     lane: Lane,
 ) -> Answer
-    requires { ⌜ AskFits (now words) ask × IndexFor (now words) ask (now committed) ⌝ }
+    requires { ⌜ AskFits (now words) (now committed) ask ⌝ }
     ensures { λ r. ⌜ answerOf r ≡ only live (asked (now (words .entry)) (now (bindings .entry)) ask (lane .0)) ⌝ }
 {
     if live {
@@ -153,7 +147,7 @@ pub fn fill(
     mask: Mask,
     out: &mut [u32],
 ) -> Mask
-    requires { ⌜ AskFits (now words) ask × IndexFor (now words) ask (now committed) × (length (now out) ≡ 256) ⌝ }
+    requires { ⌜ AskFits (now words) (now committed) ask × (length (now out) ≡ 256) ⌝ }
     ensures lanes { λ r. ⌜ r .live ≡ answeredLanes (asked (now (words .entry)) (now (bindings .entry)) ask) (mask .live) ⌝ }
     ensures words { λ r. ⌜ now (out .exit) ≡ answeredWords (asked (now (words .entry)) (now (bindings .entry)) ask) (mask .live) (now (out .entry)) ⌝ }
 {

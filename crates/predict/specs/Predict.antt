@@ -6,16 +6,14 @@ use mathlib.Core.List.{List}
 use lib.ListN.{length, getD, set}
 use Rattle.model.specs.Basics.{iter, when}
 use Rattle.args.specs.declared.Args.{Args}
-use Rattle.tables.specs.declared.TableInfo.{TableInfo}
 use Rattle.tables.specs.declared.Found.{Found}
 use Rattle.tables.specs.declared.Found.the-variants.{At, Nothing}
-use Rattle.tables.specs.declared.Place.the-variants.{InTable, InLog}
 use Rattle.tables.specs.Tables.{foundRow}
 use Rattle.predicted.specs.declared.Slot.{Slot}
 use Rattle.predicted.specs.declared.Slot.the-variants.{Hit, Free, Full as NoSlot}
 use Rattle.predicted.specs.Home.{homeOf}
 use Rattle.predicted.specs.Index.{slotOf}
-use Rattle.instr.specs.Stands.{Short}
+use Rattle.predicted.specs.Row.{rowOf}
 use Rattle.lanes.specs.Lanes.{listed}
 use Rattle.build.specs.declared.Building.{Building}
 use Rattle.build.specs.Build.{built}
@@ -26,12 +24,8 @@ use Rattle.execution.specs.Execution.{isGoing, stopped, Logged, staged}
 use Rattle.predict.specs.declared.Row.{Row}
 use Rattle.predict.specs.declared.Got.{Got}
 use Rattle.predict.specs.declared.Asking.{Asking}
-use Rattle.predict.specs.declared.Prediction.{Prediction}
 
--- what the code may suppose: of the row that is asked for, and of the words lent for the log and the index
-abbrev pub RowFits : Row → Type 0
-RowFits row = Short (row .vals) × (row .keys ≤ 16)
-
+-- what the code may suppose of the words lent for the log and the index
 pub record Ready (s : ExecutionState) (log index : List ℕ) : Type 0 where
   pub used : s .used ≤ length log
   pub short : length log ≤ 16384
@@ -56,18 +50,13 @@ pub record Served : Type 0 where
   pub index : List ℕ
   pub out : List ℕ
 
-pub record Answered : Type 0 where
-  pub prediction : Prediction
-  pub log : List ℕ
-  pub index : List ℕ
-
 abbrev pub stoppedBy : Stop → ExecutionState → Got
-stoppedBy why s = record { place = 0; made = false; state = stopped why s }
+stoppedBy why s = record { made = false; state = stopped why s }
 
 -- a row that was built is logged, and the index has its place in the slot
 abbrev pub logged : ℕ → ℕ → Logged → List ℕ → Gotten
 logged slot place l index = cond (isGoing (l .state))
-    (record { got = record { place = place; made = true; state = l .state }; log = l .log; index = set index slot (place + 1) })
+    (record { got = record { made = true; state = l .state }; log = l .log; index = set index slot (place + 1) })
     (record { got = stoppedBy (l .state .stop) (l .state); log = l .log; index = index })
 
 abbrev pub whole : ℕ → ℕ → Building → Held → Gotten
@@ -75,43 +64,45 @@ whole table slot b h = cond (b .spent)
     (record { got = stoppedBy Spent (h .state); log = h .log; index = h .index })
     (logged slot (h .state .used) (staged 2 table (b .row .vals) (b .row .count) (record { state = record { used = h .state .used; counters = b .counters; changed = h .state .changed; stop = h .state .stop }; log = h .log })) (h .index))
 
--- the lane's word is a column of the row
-abbrev pub takenWord : (i col : ℕ) → List ℕ → Got → List ℕ → List ℕ
-takenWord i col log g out = cond (isGoing (g .state)) (set out i (getD log (g .place + 2 + col) 0)) out
+-- a new row sets the changed flag
+abbrev pub noted : Got → Got
+noted g = record { made = g .made; state = record { used = g .state .used; counters = g .state .counters; changed = g .state .changed || g .made; stop = g .state .stop } }
 
-abbrev pub taken : (i col : ℕ) → List ℕ → Gotten → Served
-taken i col out g = record { state = g .got .state; log = g .log; index = g .index; out = takenWord i col (g .log) (g .got) out }
+module _ (w : List ℕ) where
+  -- lane i has a column of the row that the key has, if the run goes on
+  abbrev pub takenWord : Asking → List ℕ → ℕ → Bool → (log ix out : List ℕ) → List ℕ
+  takenWord ask key i going log ix out = cond going (set out i (getD (rowOf homeOf w log ix (ask .row .of) key) (ask .col .0) 0)) out
 
--- a predicted row as a prediction answers it
-abbrev pub ofLog : Got → Prediction
-ofLog g = record { place = InLog (g .place + 2); made = g .made; state = record { used = g .state .used; counters = g .state .counters; changed = g .state .changed || g .made; stop = g .state .stop } }
+  abbrev pub taken : Asking → List ℕ → ℕ → List ℕ → Gotten → Served
+  taken ask key i out g = record { state = g .got .state; log = g .log; index = g .index; out = takenWord ask key i (isGoing (g .got .state)) (g .log) (g .index) out }
 
 module _ (w m : List ℕ) where
   -- a new row
   unfoldable pub inserted : ℕ → Row → Args → ℕ → Held → Gotten
-  inserted i row key slot h = whole (row .table .0) slot (built w m i key (row .vals .at) (row .vals .count) (h .state .counters)) h
+  inserted i row key slot h = whole (row .of .table .0) slot (built w m i key (row .vals .at) (row .vals .count) (h .state .counters)) h
 
   abbrev pub bySlot : ℕ → Row → Args → Held → Slot → Gotten
-  bySlot i row key h (Hit p) = record { got = record { place = p; made = false; state = h .state }; log = h .log; index = h .index }
+  bySlot i row key h (Hit p) = record { got = record { made = false; state = h .state }; log = h .log; index = h .index }
   bySlot i row key h (Free slot) = inserted i row key slot h
   bySlot i row key h NoSlot = record { got = stoppedBy Full (h .state); log = h .log; index = h .index }
 
   -- the predicted row of the key, else a new one
   unfoldable pub gotten : ℕ → Row → Args → Held → Gotten
-  gotten i row key h = bySlot i row key h (slotOf homeOf (h .index) (h .log) (row .table .0) (key .vals) (row .keys))
+  gotten i row key h = bySlot i row key h (slotOf homeOf (h .index) (h .log) (row .of .table .0) (key .vals) (row .of .info .keys))
 
   -- lane i, if it is live and the run goes on
   unfoldable pub servedLane : Asking → Bool → ℕ → Served → Served
-  servedLane ask live i s = when (live && isGoing (s .state)) (λ s′. taken i (ask .col .0) (s′ .out) (gotten i (ask .row) (listed w m i (ask .key)) (record { state = s′ .state; log = s′ .log; index = s′ .index }))) s
+  servedLane ask live i s = when (live && isGoing (s .state)) (λ s′. let key = listed w m i (ask .key) in taken w ask (key .vals) i (s′ .out) (gotten i (ask .row) key (record { state = s′ .state; log = s′ .log; index = s′ .index }))) s
 
   unfoldable pub servedLanes : Asking → List Bool → Served → Served
   servedLanes ask live s = iter (λ i. servedLane ask (getD live i false) i) 256 s
 
   -- ## A prediction
 
-  abbrev pub byRow : Row → Args → Held → Found → Answered
-  byRow row key h (At p) = record { prediction = record { place = InTable p; made = false; state = h .state }; log = h .log; index = h .index }
-  byRow row key h Nothing = let g = gotten 0 row key h in record { prediction = ofLog (g .got); log = g .log; index = g .index }
+  abbrev pub byRow : Row → Args → Held → Found → Gotten
+  byRow row key h (At p) = record { got = record { made = false; state = h .state }; log = h .log; index = h .index }
+  byRow row key h Nothing = let g = gotten 0 row key h in record { got = noted (g .got); log = g .log; index = g .index }
 
-  unfoldable pub answered : TableInfo → Row → Args → Held → Answered
-  answered info row key h = byRow row key h (foundRow w info (key .vals))
+  -- the committed row is there, else the predicted one, else a new one
+  unfoldable pub answered : Row → Args → Held → Gotten
+  answered row key h = byRow row key h (foundRow w (row .of .info) (key .vals))

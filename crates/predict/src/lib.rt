@@ -4,32 +4,26 @@ use execution::ExecutionState;
 use execution::Stop;
 use ids::ColumnId;
 use ids::Lane;
-use ids::TableId;
 use instr::Entries;
 use mask::Mask;
 use predicted::Slot;
+use predicted::Sought;
 use tables::Found;
-use tables::Place;
-use tables::TableInfo;
 ghost use mathlib.Core.Path.{_≡_};
 ghost use Prim.Native.Nat.{_≤_, _<_};
 ghost use lib.ListN.{length};
-ghost use Rattle.tables.specs.Tables.{Stands};
-ghost use Rattle.hash_index.specs.Index.{IndexAmong};
-ghost use Rattle.hash_index.specs.Book.{rowsBefore};
+ghost use Rattle.predicted.specs.Row.{Searchable};
 ghost use Rattle.instr.specs.Stands.{Short};
-ghost use Rattle.predict.specs.Predict.{RowFits, Ready, Gotten, stoppedBy, inserted, gotten, takenWord, Served, servedLane, servedLanes, ofLog, Answered, answered};
+ghost use Rattle.predict.specs.Predict.{Ready, Gotten, stoppedBy, inserted, gotten, takenWord, Served, servedLane, servedLanes, noted, answered};
 
-// Which row is asked for: of a table with `keys` key columns, and the write values of a new one.
+// Which row is asked for: of which table, and the write values of a new one.
 pub struct Row {
-    pub table: TableId,
-    pub keys: usize,
+    pub of: Sought,
     pub vals: Entries,
 }
 
-// The place of the row's record in the log, whether it is new, and what the run keeps.
+// A row was got: whether it is new, and what the run keeps.
 pub struct Got {
-    pub place: usize,
     pub made: bool,
     pub state: ExecutionState,
 }
@@ -41,19 +35,11 @@ pub struct Asking {
     pub col: ColumnId,
 }
 
-// A prediction's row, as a part of the table's words or of the log's; whether it is new, and what the run keeps.
-pub struct Prediction {
-    pub place: Place,
-    pub made: bool,
-    pub state: ExecutionState,
-}
-
 // The run ends, and there is no row.
 fn stop(s: ExecutionState, why: Stop) -> Got
     ensures { λ r. ⌜ r ≡ stoppedBy why s ⌝ }
 {
     Got {
-        place: 0,
         made: false,
         state: s.stopped(why),
     }
@@ -71,9 +57,9 @@ fn insert(
     log: &mut [u32],
     index: &mut [u32],
 ) -> Got
-    requires { ⌜ RowFits row × (key .count ≤ 16) × Ready s (now log) (now index) × (slot < 8192) ⌝ }
+    requires { ⌜ Short (row .vals) × (key .count ≤ 16) × Ready s (now log) (now index) × (slot < 8192) ⌝ }
     ensures is { λ r. ⌜ _≡_ {A = Gotten} (record { got = r; log = now (log .exit); index = now (index .exit) }) (inserted (now (words .entry)) (now (bindings .entry)) (lane .0) row key slot (record { state = s; log = now (log .entry); index = now (index .entry) })) ⌝ }
-    ensures fits { λ r. ⌜ (r .state .used ≤ length (now (log .entry))) × (r .place < 4294967296) ⌝ }
+    ensures fits { λ r. ⌜ r .state .used ≤ length (now (log .entry)) ⌝ }
 {
     let b = build::build(words, bindings, lane, key, row.vals, s.counters);
     if b.spent {
@@ -84,12 +70,10 @@ fn insert(
     started.counters = counters;
     let built = b.row;
     let vals = built.vals;
-    let t = execution::stage(started, 2, row.table, &vals, built.count, log);
+    let t = execution::stage(started, 2, row.of.table, &vals, built.count, log);
     if t.going() {
-        let place = s.used;
-        predicted::insert(index, slot, place);
+        predicted::insert(index, slot, s.used);
         return Got {
-            place,
             made: true,
             state: t,
         };
@@ -109,14 +93,13 @@ fn get_or_insert(
     log: &mut [u32],
     index: &mut [u32],
 ) -> Got
-    requires { ⌜ RowFits row × (key .count ≤ 16) × Ready s (now log) (now index) ⌝ }
+    requires { ⌜ Short (row .vals) × (row .of .info .keys ≤ 16) × (key .count ≤ 16) × Ready s (now log) (now index) ⌝ }
     ensures is { λ r. ⌜ _≡_ {A = Gotten} (record { got = r; log = now (log .exit); index = now (index .exit) }) (gotten (now (words .entry)) (now (bindings .entry)) (lane .0) row key (record { state = s; log = now (log .entry); index = now (index .entry) })) ⌝ }
-    ensures fits { λ r. ⌜ (r .state .used ≤ length (now (log .entry))) × (r .place < 4294967296) ⌝ }
+    ensures fits { λ r. ⌜ r .state .used ≤ length (now (log .entry)) ⌝ }
 {
     let vals = key.vals;
-    match predicted::get(index, log, row.table, &vals, row.keys) {
-        Slot::Hit(place) => Got {
-            place,
+    match predicted::get(index, log, row.of.table, &vals, row.of.info.keys) {
+        Slot::Hit(_) => Got {
             made: false,
             state: s,
         },
@@ -126,21 +109,33 @@ fn get_or_insert(
     }
 }
 
-// The lane's word, a column of the row that was got; none where the run ended.
-fn take(got: Got, col: ColumnId, lane: Lane, log: &[u32], out: &mut [u32])
-    requires { ⌜ (lane .0 < length (now out)) × (got .place < 4294967296) ⌝ }
-    ensures { λ _. ⌜ now (out .exit) ≡ takenWord (lane .0) (col .0) (now (log .entry)) got (now (out .entry)) ⌝ }
+// The lane's word, a column of the row that the key has; none where the run ended.
+fn take<'a>(
+    words: &'a [u32],
+    committed: &[u32],
+    ask: Asking,
+    key: Args,
+    lane: Lane,
+    going: bool,
+    log: &'a [u32],
+    index: &[u32],
+    out: &mut [u32],
+)
+    requires { ⌜ Searchable (now words) (now committed) (ask .row .of) × (lane .0 < length (now out)) ⌝ }
+    ensures { λ _. ⌜ now (out .exit) ≡ takenWord (now (words .entry)) ask (key .vals) (lane .0) going (now (log .entry)) (now (index .entry)) (now (out .entry)) ⌝ }
 {
-    let t = got.state;
-    if t.going() {
+    if going {
+        let vals = key.vals;
+        let row = predicted::row_of(words, log, committed, index, ask.row.of, &vals);
         let i = lane.0;
-        out[i] = words::word(log, got.place + 2 + words::size(col.0));
+        out[i] = words::word(row, words::size(ask.col.0));
     }
 }
 
 // A lane that is served has its word in `out`.
 fn serve_lane(
     words: &[u32],
+    committed: &[u32],
     bindings: &[u32],
     ask: Asking,
     live: bool,
@@ -150,15 +145,16 @@ fn serve_lane(
     index: &mut [u32],
     out: &mut [u32],
 ) -> ExecutionState
-    requires { ⌜ Short (ask .key) × RowFits (ask .row) × Ready s (now log) (now index) × (lane .0 < length (now out)) ⌝ }
+    requires { ⌜ Searchable (now words) (now committed) (ask .row .of) × Short (ask .key) × Short (ask .row .vals) × Ready s (now log) (now index) × (lane .0 < length (now out)) ⌝ }
     ensures is { λ r. ⌜ _≡_ {A = Served} (record { state = r; log = now (log .exit); index = now (index .exit); out = now (out .exit) }) (servedLane (now (words .entry)) (now (bindings .entry)) ask live (lane .0) (record { state = s; log = now (log .entry); index = now (index .entry); out = now (out .entry) })) ⌝ }
     ensures fits { λ r. ⌜ r .used ≤ length (now (log .entry)) ⌝ }
 {
     if live & s.going() {
         let key = lanes::fetch(words, bindings, ask.key, lane);
         let got = get_or_insert(words, bindings, lane, ask.row, key, s, log, index);
-        take(got, ask.col, lane, log, out);
-        return got.state;
+        let t = got.state;
+        take(words, committed, ask, key, lane, t.going(), log, index, out);
+        return t;
     }
     s
 }
@@ -166,6 +162,7 @@ fn serve_lane(
 // Each lane of the mask is served, ascending, until a counter is spent or the log is full.
 pub fn serve_lanes(
     words: &[u32],
+    committed: &[u32],
     bindings: &[u32],
     ask: Asking,
     mask: Mask,
@@ -174,7 +171,7 @@ pub fn serve_lanes(
     index: &mut [u32],
     out: &mut [u32],
 ) -> ExecutionState
-    requires { ⌜ Short (ask .key) × RowFits (ask .row) × Ready start (now log) (now index) × (length (now out) ≡ 256) ⌝ }
+    requires { ⌜ Searchable (now words) (now committed) (ask .row .of) × Short (ask .key) × Short (ask .row .vals) × Ready start (now log) (now index) × (length (now out) ≡ 256) ⌝ }
     ensures is { λ r. ⌜ _≡_ {A = Served} (record { state = r; log = now (log .exit); index = now (index .exit); out = now (out .exit) }) (servedLanes (now (words .entry)) (now (bindings .entry)) ask (mask .live) (record { state = start; log = now (log .entry); index = now (index .entry); out = now (out .entry) })) ⌝ }
     ensures fits { λ r. ⌜ r .used ≤ length (now (log .entry)) ⌝ }
 {
@@ -184,6 +181,7 @@ pub fn serve_lanes(
     while i < n {
         s = serve_lane(
             words,
+            committed,
             bindings,
             ask,
             mask.live[i],
@@ -198,44 +196,41 @@ pub fn serve_lanes(
     s
 }
 
-// The committed row of the key, else the predicted row, else a new one, which sets the changed flag. An index of the committed rows is lent, or an empty one for none.
+// A new row sets the changed flag.
+fn note_change(got: Got) -> Got
+    ensures { λ r. ⌜ r ≡ noted got ⌝ }
+{
+    let mut t = got.state;
+    t.changed = t.changed | got.made;
+    Got {
+        made: got.made,
+        state: t,
+    }
+}
+
+// The committed row of the key is there, else the predicted row, else a new one, which sets the changed flag. An index of the committed rows is lent, or an empty one for none.
 pub fn predict_val(
     words: &[u32],
     committed: &[u32],
     bindings: &[u32],
-    info: TableInfo,
     row: Row,
     key: Args,
     s: ExecutionState,
     log: &mut [u32],
     index: &mut [u32],
-) -> Prediction
-    requires { ⌜ Stands (now words) info × IndexAmong (now words) info (rowsBefore (now words) (row .table .0)) (now committed) × RowFits row × (key .count ≤ 16) × Ready s (now log) (now index) ⌝ }
-    ensures is { λ r. ⌜ _≡_ {A = Answered} (record { prediction = r; log = now (log .exit); index = now (index .exit) }) (answered (now (words .entry)) (now (bindings .entry)) info row key (record { state = s; log = now (log .entry); index = now (index .entry) })) ⌝ }
+) -> Got
+    requires { ⌜ Searchable (now words) (now committed) (row .of) × Short (row .vals) × (key .count ≤ 16) × Ready s (now log) (now index) ⌝ }
+    ensures is { λ r. ⌜ _≡_ {A = Gotten} (record { got = r; log = now (log .exit); index = now (index .exit) }) (answered (now (words .entry)) (now (bindings .entry)) row key (record { state = s; log = now (log .entry); index = now (index .entry) })) ⌝ }
     ensures fits { λ r. ⌜ r .state .used ≤ length (now (log .entry)) ⌝ }
 {
     let vals = key.vals;
-    let first = hash_index::rows_before(words, row.table);
-    match hash_index::look_up_among(words, committed, info, first, &vals) {
-        Found::At(p) => Prediction {
-            place: Place::InTable(p),
+    match hash_index::look_up_among(words, committed, row.of.info, row.of.first, &vals) {
+        Found::At(_) => Got {
             made: false,
             state: s,
         },
-        Found::Nothing => of_log(get_or_insert(words, bindings, Lane(0), row, key, s, log, index)),
-    }
-}
-
-// A predicted row as a prediction answers it.
-fn of_log(got: Got) -> Prediction
-    requires { ⌜ got .place < 4294967296 ⌝ }
-    ensures { λ r. ⌜ r ≡ ofLog got ⌝ }
-{
-    let mut t = got.state;
-    t.changed = t.changed | got.made;
-    Prediction {
-        place: Place::InLog(got.place + 2),
-        made: got.made,
-        state: t,
+        Found::Nothing => {
+            note_change(get_or_insert(words, bindings, Lane(0), row, key, s, log, index))
+        }
     }
 }

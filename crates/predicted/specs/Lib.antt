@@ -1,8 +1,10 @@
 pub mod Home
 pub mod Index
 pub mod Right
+pub mod Row
 pub mod HomeLaws
 pub mod IndexLaws
 pub mod Room
 pub mod RecordLaws
 pub mod RightLaws
+pub mod RowLaws

@@ -1,14 +1,14 @@
 -- One record more: by its place, among the predicted rows of a key, and counted.
-use Prim.Native.Nat.{ℕ, zero, suc, _+_, _*_, _≤_}
+use Prim.Native.Nat.{ℕ, zero, suc, _+_, _*_, _<_, _≤_}
 use mathlib.Core.Path.{_≡_, refl, sym, ap, _∙_}
 use mathlib.Core.Bool.{Bool, true, false, _&&_}
-use mathlib.Core.Option.{some}
+use mathlib.Core.Option.{none, some}
 use mathlib.Core.List.{List, [], _∷_, _++_}
 use mathlib.Core.Logic.{_⊎_, inl, inr, ⊎-elim}
 use native.Mathlib.Omega.{arith}
 use lib.Dec.{eqb}
 use borrow.Author.Tests.{eqb-true}
-use lib.ListN.{length, getElem?, take}
+use lib.ListN.{length, getD, getElem?, take}
 use Rattle.model.specs.Basics.{first, keepIf, eqList, All}
 use Rattle.model.specs.Machine.State.{Record, logWords}
 use Rattle.model.specs.Machine.Values.{isRow, predictedRows}
@@ -27,6 +27,16 @@ module _ {A : Type 0} where
   pub at-last : (xs : List A) (x : A) → getElem? (xs ++ (x ∷ [])) (length xs) ≡ some x
   at-last [] x = refl
   at-last (y ∷ xs) x = at-last xs x
+
+  pub at-here : (xs : List A) (n : ℕ) (d : A) → n < length xs → getElem? xs n ≡ some (getD xs n d)
+  at-here [] n d h = absurd (omega arith)
+  at-here (x ∷ xs) zero d h = refl
+  at-here (x ∷ xs) (suc n) d h = at-here xs n d (omega arith)
+
+  pub at-past : (xs : List A) (n : ℕ) → length xs ≤ n → getElem? xs n ≡ none
+  at-past [] n h = refl
+  at-past (x ∷ xs) zero h = absurd (omega arith)
+  at-past (x ∷ xs) (suc n) h = at-past xs n (omega arith)
 
   -- what stands in a longer list stood in the list, or is the last
   pub at-cases : (xs : List A) (l : A) (n : ℕ) (x : A) → getElem? (xs ++ (l ∷ [])) n ≡ some x → (getElem? xs n ≡ some x) ⊎ ((n ≡ length xs) × (l ≡ x))

@@ -1,5 +1,9 @@
 // PredictedVals: an index of 8192 words over the predicted rows of the log, by table and key.
 // A slot is 0 where it is free, else the place of a record in the log plus 1. A row stands at the first slot, from its key's home on, that was free when it came.
+mod row;
+
+pub use row::Sought;
+pub use row::row_of;
 ghost use mathlib.Core.Path.{_≡_};
 ghost use Prim.Native.Nat.{_+_, _≤_, _<_};
 ghost use lib.ListN.{length, set};
@@ -57,14 +61,14 @@ fn probe(
     k: usize,
     home: usize,
 ) -> Slot
-    requires { ⌜ (length (now index) ≡ 8192) × (home < 8192) × (k ≤ 16) ⌝ }
+    requires { ⌜ (home < 8192) × (k ≤ 16) ⌝ }
     ensures is { λ r. ⌜ r ≡ probed (now (index .entry)) (answers (now (log .entry)) (table .0) (now (key .entry)) k) 8192 home ⌝ }
     ensures small { λ r. ⌜ Small r ⌝ }
 {
     let mut s = home;
     let mut j: usize = 0;
     while j < 8192 {
-        let v = index[s] as usize;
+        let v = words::size_at(index, s);
         if v == 0 {
             return Slot::Free(s);
         }
@@ -77,9 +81,9 @@ fn probe(
     Slot::Full
 }
 
-// Where the predicted row of a key of k words stands in the log, or would stand in the index.
+// Where the predicted row of a key of k words stands in the log, or would stand in the index; past the end of an index there are free slots.
 pub fn get(index: &[u32], log: &[u32], table: ids::TableId, key: &[u32; 16], k: usize) -> Slot
-    requires { ⌜ (length (now index) ≡ 8192) × (k ≤ 16) ⌝ }
+    requires { ⌜ k ≤ 16 ⌝ }
     ensures is { λ r. ⌜ r ≡ slotOf homeOf (now (index .entry)) (now (log .entry)) (table .0) (now (key .entry)) k ⌝ }
     ensures small { λ r. ⌜ Small r ⌝ }
 {

@@ -1,34 +1,31 @@
--- How many lanes a batch keeps, how many words a prediction's row has, and what a step leaves where it answered and where it stopped.
+-- How many lanes a batch keeps, how many words a prediction's row has at most, and what a step leaves where it answered and where it stopped.
 use Prim.Native.Nat.{ℕ, _+_, _≤_}
 use mathlib.Core.Path.{_≡_, refl, sym, subst, _∙_}
-use mathlib.Core.Bool.{Bool, true, false, _&&_}
+use mathlib.Core.Bool.{true, false, _&&_}
 use mathlib.Core.Logic.{_⊎_}
 use mathlib.Core.List.{List}
 use native.Mathlib.Omega.{arith}
-use borrow.Author.Tests.{leb-true}
 use lib.ListN.{length, getD}
 use Rattle.model.specs.Book.Contents.{firstOf, firstStep, kindOf}
 use Rattle.model.specs.Book.Decode.{instrPlace}
-use Rattle.model.specs.Laws.Book.{Readable, widthOf}
-use Rattle.model.specs.Laws.Bodies.{length-part}
+use Rattle.model.specs.Laws.Book.{Readable}
 use Rattle.model.specs.Laws.Iter.{iter-keeps}
 use Rattle.model.specs.Laws.Kinds.{table-read, step-kind}
 use Rattle.model.specs.Laws.Logic.{either, when-ind}
 use Rattle.model.specs.Machine.Steps.{anyLive}
-use Rattle.tables.specs.declared.Place.{Place}
-use Rattle.tables.specs.declared.Place.the-variants.{InTable, InLog}
-use Rattle.tables.specs.Tables.{Holds, rowOf}
+use Rattle.predicted.specs.Home.{homeOf}
+use Rattle.predicted.specs.RowLaws.{row-short}
 use Rattle.instr.specs.Instr.{instrAt}
 use Rattle.execution.specs.declared.ExecutionState.{ExecutionState}
 use Rattle.execution.specs.Execution.{isGoing}
-use Rattle.predict.specs.Predict.{Answered}
+use Rattle.predict.specs.Predict.{Gotten}
 use Rattle.action.specs.Run as action
 use Rattle.action.specs.Run.{Running, ranInstr, ranInstrs}
-use Rattle.steps.specs.Steps.{IsStep, laneCount, startBatch, ruleOf, ranBatch}
+use Rattle.steps.specs.Steps.{IsStep, laneCount, startBatch, ruleOf, ranBatch, rowAsked, keyAsked, rowAnswered}
 use Rattle.steps.specs.StepsLaws.{lane-count-most, batch-facts, prediction-facts}
 use Rattle.answer.specs.Steps.{placed}
 use Rattle.run.specs.declared.Progress.{Progress}
-use Rattle.run.specs.Progress.{Ran, halted, standsIn, told, bodyOf, batchTold, rowBody, rowTold, batchStep, predictionStep, ranNext}
+use Rattle.run.specs.Progress.{Ran, halted, told, bodyOf, batchTold, rowBody, rowTold, batchStep, predictionStep, ranNext}
 
 -- ## The lanes of a batch
 
@@ -59,20 +56,11 @@ module _ {w : List ℕ} (h : Readable w) {i : ℕ} (s : IsStep w i) where
   not-batch n = either (λ q. absurd (n q)) (λ q. q) (subst (λ (e : ℕ). (kindOf w e ≡ 4) ⊎ (kindOf w e ≡ 5)) (sym (s .entry)) (step-kind w (h .contents) (h .bodies) (s .number) (s .below)))
 
   -- the row of a prediction of the book has at most 16 words
-  pub width-most : kindOf w i ≡ 5 → widthOf w (getD w (firstOf w i) 0) ≤ 16
-  width-most k = let t = table-read w (h .contents) (h .bodies) (getD w (firstOf w i) 0) (prediction-facts h s k .table) .1 in omega (arith, t .keys, t .vals)
-
--- ## The words of a prediction's row
-
-module _ (w log : List ℕ) (width : ℕ) where
-  -- the code's test lets the row be read
-  pub stands-holds : (place : Place) → standsIn w log width place ≡ true → Holds w log width place
-  stands-holds (InTable p) e = leb-true _ _ e
-  stands-holds (InLog p) e = leb-true _ _ e
-
-  pub length-row : (place : Place) → Holds w log width place → length (rowOf w log width place) ≡ width
-  length-row (InTable p) h = length-part w p width h
-  length-row (InLog p) h = length-part log p width h
+  pub row-most : kindOf w i ≡ 5 → (log index : List ℕ) → length (rowAnswered w (firstOf w i) log index) ≤ 16
+  unfolding rowAnswered
+  row-most k log index =
+      let t = table-read w (h .contents) (h .bodies) (getD w (firstOf w i) 0) (prediction-facts h s k .table) .1 in
+      omega (arith, t .keys, t .vals, row-short homeOf w log index (rowAsked w (firstOf w i) .of) (keyAsked w (firstOf w i) .vals))
 
 -- ## A step that answered, and one that stopped
 
@@ -85,17 +73,14 @@ module _ (r : Running) (a : Ran) where
       → record { progress = p; bindings = r .bindings; log = r .log; index = r .index; answer = a .answer } ≡ batchTold r a
   batch-stopped p g e = rw (g, e)
 
-module _ (w : List ℕ) (width : ℕ) (d : Answered) (a : Ran) where
-  abbrev tells : Bool
-  tells = isGoing (d .prediction .state) && standsIn w (d .log) width (d .prediction .place)
+module _ (w : List ℕ) (at : ℕ) (g : Gotten) (a : Ran) where
+  pub row-answered : (p : Progress) (answer : List ℕ) → isGoing (g .got .state) ≡ true → p ≡ told (g .got .state) (rowBody w at g) (a .progress) → answer ≡ placed (rowBody w at g) (a .progress .at) (a .answer)
+      → record { progress = p; bindings = a .bindings; log = g .log; index = g .index; answer = answer } ≡ rowTold w at g a
+  row-answered p answer e q f = rw (e, q, f)
 
-  pub row-answered : (p : Progress) (answer : List ℕ) → tells ≡ true → p ≡ told (d .prediction .state) (rowBody w width d) (a .progress) → answer ≡ placed (rowBody w width d) (a .progress .at) (a .answer)
-      → record { progress = p; bindings = a .bindings; log = d .log; index = d .index; answer = answer } ≡ rowTold w width d a
-  row-answered p answer g e f = rw (g, e, f)
-
-  pub row-stopped : (p : Progress) → tells ≡ false → p ≡ halted (d .prediction .state) (a .progress)
-      → record { progress = p; bindings = a .bindings; log = d .log; index = d .index; answer = a .answer } ≡ rowTold w width d a
-  row-stopped p g e = rw (g, e)
+  pub row-stopped : (p : Progress) → isGoing (g .got .state) ≡ false → p ≡ halted (g .got .state) (a .progress)
+      → record { progress = p; bindings = a .bindings; log = g .log; index = g .index; answer = a .answer } ≡ rowTold w at g a
+  row-stopped p e q = rw (e, q)
 
 -- ## The next step
 

@@ -1,17 +1,15 @@
 // The steps of a book, one after the other. Each step's body goes to the front of the answer's words, past those of the steps before it.
 use execution::ExecutionState;
 use ids::TableId;
-use tables::Place;
 ghost use mathlib.Core.Path.{_≡_};
 ghost use Prim.Native.Nat.{_+_, _-_, _≤_, _<_};
-ghost use lib.Dec.{leb};
 ghost use lib.ListN.{length};
 ghost use Rattle.model.specs.Book.Contents.{firstOf, firstRule, firstStep, kindOf, stepCount, tableCount};
 ghost use Rattle.model.specs.Laws.Book.{Readable};
 ghost use Rattle.hash_index.specs.Book.{rowsBefore, BookIndex};
 ghost use Rattle.predict.specs.Predict.{Ready};
 ghost use Rattle.steps.specs.Steps.{IsStep};
-ghost use Rattle.run.specs.Progress.{Ran, Early, standsIn, advanced, halted, batchStep, predictionStep, ranNext, ranSteps};
+ghost use Rattle.run.specs.Progress.{Ran, Early, advanced, halted, batchStep, predictionStep, ranNext, ranSteps};
 
 // What the run keeps, how many steps have answered, how many words their bodies have in all, and each.
 pub struct Progress {
@@ -19,23 +17,6 @@ pub struct Progress {
     pub done: usize,
     pub at: usize,
     pub lengths: [u32; 64],
-}
-
-// Whether `width` words from p on are among n.
-fn within(p: usize, width: usize, n: usize) -> bool
-    ensures { λ r. ⌜ r ≡ leb (p + width) n ⌝ }
-{
-    if p <= n { width <= n - p } else { false }
-}
-
-// Whether a row stands in the table's words or in the log's.
-fn stands_in(words: &[u32], log: &[u32], width: usize, place: Place) -> bool
-    ensures { λ r. ⌜ r ≡ standsIn (now (words .entry)) (now (log .entry)) width place ⌝ }
-{
-    match place {
-        Place::InTable(p) => within(p, width, words.len()),
-        Place::InLog(p) => within(p, width, log.len()),
-    }
 }
 
 // A step has answered, and the words up to `end` are used.
@@ -112,24 +93,14 @@ fn prediction_step(
     ensures fits { λ r. ⌜ (r .state .used ≤ length (now (log .entry))) × (r .done ≤ p .done + 1) × (r .at ≤ p .at + 8483) ⌝ }
 {
     let before = p.state;
-    let row = steps::run_prediction(words, committed, i, before, bindings, log, index);
-    let state = row.state;
-    let place = row.place;
-    let table = TableId(words::word(words, contents::first_of(words, i)));
-    let info = tables::info_of(words, table);
-    if state.going() & stands_in(words, log, info.width, place) {
-        let end = answer::steps::write_prediction(
-            words,
-            log,
-            place,
-            info.width,
-            row.made,
-            p.at,
-            answer,
-        );
-        return advance(p, state, end);
+    let got = steps::run_prediction(words, committed, i, before, bindings, log, index);
+    let after = got.state;
+    if after.going() {
+        let row = steps::row_answered(words, log, committed, index, i);
+        let end = answer::steps::write_prediction(row, got.made, p.at, answer);
+        return advance(p, after, end);
     }
-    halt(p, state)
+    halt(p, after)
 }
 
 // The next step, if the run goes on. The rules' first entry in the contents is `base`, the steps' first is `first`.

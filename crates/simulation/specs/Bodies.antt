@@ -1,7 +1,6 @@
 -- The lanes' part of each instruction: what the code leaves is what the machine leaves.
-use Prim.Native.Nat.{ℕ, zero, suc, _+_, _*_, _<_, _≤_}
+use Prim.Native.Nat.{ℕ, zero, suc, _<_, _≤_}
 use mathlib.Core.Path.{_≡_, refl, sym, ap, _∙_, subst}
-use mathlib.Core.Logic.{_⊎_, inl, inr}
 use mathlib.Core.Bool.{Bool, true, false, _&&_, _||_}
 use lib.Dec.{leb}
 use borrow.Author.Tests.{lt-ltb}
@@ -10,23 +9,20 @@ use mathlib.Core.Option.{Option, none, some}
 use mathlib.Core.List.{List, [], _∷_, map}
 use native.Mathlib.Omega.{arith}
 use native.Mathlib.Decide.{decLt}
-use lib.ListN.{length, getD, take, replicate, length-take, length-replicate, getD-replicate, List·getD-eq-default}
+use lib.ListN.{length, getD, take, replicate, length-replicate, List·getD-eq-default}
 use lib.Seq.{ext-getD, getD-take, length-take-le}
-use Rattle.model.specs.Basics.{only, tab}
+use Rattle.model.specs.Basics.{only}
 use Rattle.model.specs.Book.Syntax.{Counter, noCounter, nextOf, stale, width}
-use Rattle.model.specs.Book.Contents.{tableCount, counterCount}
-use Rattle.model.specs.Machine.State.{State, Record, going, stuck, frame}
+use Rattle.model.specs.Machine.State.{State, Bindings, Record, stuck}
 use Rattle.model.specs.Machine.Steps.{here, orStale, isNone, wait, lanes, missed, lookup, serveMissed, tableOf, body}
 use Rattle.model.specs.Laws.Logic.{either}
 use Rattle.model.specs.Laws.Passes.{Passed}
-use Rattle.model.specs.Laws.Lists.{length-tab, getD-tab}
-use Rattle.model.specs.Laws.Book.{keysOf, table-keys, table-width}
 use Rattle.ids.specs.declared.TableId.{TableId}
 use Rattle.ids.specs.declared.ColumnId.{ColumnId}
 use Rattle.ids.specs.declared.Variable.{Variable}
 use Rattle.ids.specs.declared.ExternalFunctionId.{ExternalFunctionId}
 use Rattle.instr.specs.declared.QueryEntry.{QueryEntry}
-use Rattle.mask.specs.Masks.{padded, firstLanes, united, butNot, without}
+use Rattle.mask.specs.Masks.{padded, firstLanes, united, butNot}
 use Rattle.mask.specs.MaskLaws.{has-first, has-both, has-padded, is-padded}
 use Rattle.counter.specs.CounterLaws.{getD-padded}
 use Rattle.bindings.specs.Columns.{columnsOf}
@@ -34,17 +30,16 @@ use Rattle.instr.specs.declared.Entries.{Entries}
 use Rattle.instr.specs.declared.Instr.{Instr}
 use Rattle.instr.specs.declared.Instr.the-variants.{LookupOrInsertDefault, LookupWithDefault, Lookup, LookupWithFallback, Insert, InsertIfEq, Remove, External, ExternalWithFallback, AssertEq, AssertNe, AssertAnyNe, ReadCounter}
 use Rattle.instr.specs.Meaning.{entriesOf, writesOf, instrOf}
-use Rattle.lanes.specs.declared.Ask.{Ask}
 use Rattle.lanes.specs.declared.Ask.the-variants.{Const as AskConst}
 use Rattle.lanes.specs.LaneLaws.{asked-entry}
 use Rattle.lanes.specs.Lanes.{entryAsk, asked, isSome, orElse, answeredLanes, answeredWords}
 use Rattle.execution.specs.declared.Stop.the-variants.{Going}
 use Rattle.execution.specs.declared.ExecutionState.{ExecutionState}
-use Rattle.execution.specs.Execution.{Logged, stagedLanes}
+use Rattle.execution.specs.Execution.{Logged}
 use Rattle.predict.specs.Predict.{Served, servedLanes}
-use Rattle.action.specs.Act.{Lanes, acted, rowAsk, asking, unanswered, withLog, withServed}
+use Rattle.action.specs.Act.{Lanes, acted, rowAsk, asking, withLog, withServed}
 use Rattle.simulation.specs.Represents.{machine, LogIs, Follows, follows-map, sticks, stops, goes}
-use Rattle.simulation.specs.Passes.{noWords, outWords, Start, Ended, Ends, Waits, dst-is, out-word, length-words, length-both, missed-stuck, missedLanes, waits-words, waits-missed, answered-word, answered-lane}
+use Rattle.simulation.specs.Passes.{noWords, Start, Ended, Ends, Waits, dst-is, out-word, length-words, length-both, missed-stuck, missedLanes, missed-none, waits-words, waits-missed, answered-word, answered-lane}
 use Rattle.simulation.specs.Reading.{lookup-first, lookup-default, lookup-drop, external-drop, lookup-fallback, external-fallback, assert-eq, assert-ne, assert-any-ne}
 use Rattle.simulation.specs.Staging.{Kept, Staged, list-pass, if-pass}
 use Rattle.simulation.specs.Serving.{OutIs, Serving, serve-pass}
@@ -275,14 +270,17 @@ module _ (w : List ℕ) (L : ℕ) (s : State) (start : Start s) (x : ExecutionSt
         stuck-first e = sticks (ap (λ (t : State). t .status) (missed-stuck (λ i. serveMissed (machine w L) (here k j i) (dst .0) (table .0) (entriesOf w args) (writesOf w vals) (col .0)) s₁ e) ∙ e)
 
         served : Waits s s₁ ask → Goal
-        served q = by (subst (λ (mm : List ℕ). Follows s₁ s₂ (servedLanes w mm (asking w table args vals col) who c₀ .state .stop) (Serving w L short s₁ few₁ (dst .0) (asking w table args vals col) (f .0) refl (f .2 .0 .1) (f .2 .1) (f .1 .0 .1) (f .1 .1) (length (s₁ .live)) s₂ (servedLanes w mm (asking w table args vals col) who c₀))) (ap columnsOf (q .passed .bindings))
-            (serve-pass w L short s₁ few₁ (dst .0) (asking w table args vals col) (f .0) refl (f .2 .0 .1) (f .2 .1) (f .1 .0 .1) (f .1 .1) k j who waits c₀ (q .passed .status ∙ start .status) on (same-log s₁ (s .live) (s₁ .out) (q .passed)) found))
+        served q = by (subst (λ (mm : List ℕ). Follows s₁ s₂ (servedLanes w mm (asking w table args vals col) who c₀ .state .stop) (Serving w L short s₁ few₁ (dst .0) table args vals col (f .0) (f .2 .0 .1) (f .2 .1) (f .1 .0 .1) (f .1 .1) (length (s₁ .live)) s₂ (servedLanes w mm (asking w table args vals col) who c₀))) (ap columnsOf (q .passed .bindings))
+            (serve-pass w L short s₁ few₁ (dst .0) table args vals col (f .0) (f .2 .0 .1) (f .2 .1) (f .1 .0 .1) (f .1 .1) k j who waits misses c₀ (q .passed .status ∙ start .status) on (same-log s₁ (s .live) (s₁ .out) (q .passed)) found))
           where
             few₁ : length (s₁ .live) ≤ 256
             few₁ = rw (q .passed .live-is) (start .few)
 
             waits : (i : ℕ) → getD who i false ≡ getD (s₁ .live) i false && isNone (getD (s₁ .out) i none)
             waits i = elim (decLt i 256) [ yes h ↦ waits-missed s start ask s₁ q i h | no h ↦ List·getD-eq-default who false {n = i} (omega (arith, length-both butNot (padded (s .live)) (answeredLanes ask (padded (s .live))))) ∙ sym (rw (List·getD-eq-default (s₁ .live) false {n = i} (omega (arith, few₁)))) ]
+
+            misses : (i : ℕ) → i < 256 → getD who i false ≡ true → asked w (columnsOf (s₁ .bindings)) (rowAsk w table args col) i ≡ none
+            misses i h e = ap (λ (b : Bindings). asked w (columnsOf b) (rowAsk w table args col) i) (q .passed .bindings) ∙ missed-none s start ask i h e
 
             found : OutIs (length (s₁ .live)) (s₁ .out) (answeredWords ask (padded (s .live)) noWords)
             found = record {
@@ -291,7 +289,7 @@ module _ (w : List ℕ) (L : ℕ) (s : State) (start : Start s) (x : ExecutionSt
               word = λ i h. ap (λ (l : List ℕ). getD l i 0) (sym (waits-words s start ask s₁ q)) ∙ out-word (s₁ .out) i 0 (omega (arith, few₁));
             }
 
-            by : Follows s₁ s₂ (servedLanes w m (asking w table args vals col) who c₀ .state .stop) (Serving w L short s₁ few₁ (dst .0) (asking w table args vals col) (f .0) refl (f .2 .0 .1) (f .2 .1) (f .1 .0 .1) (f .1 .1) (length (s₁ .live)) s₂ (servedLanes w m (asking w table args vals col) who c₀)) → Goal
+            by : Follows s₁ s₂ (servedLanes w m (asking w table args vals col) who c₀ .state .stop) (Serving w L short s₁ few₁ (dst .0) table args vals col (f .0) (f .2 .0 .1) (f .2 .1) (f .1 .0 .1) (f .1 .1) (length (s₁ .live)) s₂ (servedLanes w m (asking w table args vals col) who c₀)) → Goal
             by (sticks e) = sticks e
             by (stops a b c) = stops a b (c ∙ q .passed .answers)
             by (goes a b v) = goes a b (record {

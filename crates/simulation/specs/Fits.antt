@@ -1,6 +1,6 @@
 -- What is known of an instruction of a book that can be read: what it names is there, and its lists are short.
 use Prim.Native.Nat.{ℕ, zero, suc, _+_, _*_, _<_, _≤_}
-use mathlib.Core.Path.{_≡_, refl, sym, ap, subst}
+use mathlib.Core.Path.{_≡_, refl, sym, subst}
 use mathlib.Core.Bool.{Bool, true, false, _&&_, cond}
 use lib.Dec.{ltb, leb}
 use borrow.Author.Tests.{leb-true}
@@ -8,11 +8,9 @@ use Rattle.model.specs.Laws.Logic.{and-split}
 use mathlib.Core.List.{List}
 use native.Mathlib.Nat.{add-assoc}
 use native.Mathlib.Omega.{arith}
-use lib.ListN.{length, getD}
-use Rattle.model.specs.Basics.{All}
-use Rattle.model.specs.Book.Syntax as syntax
+use lib.ListN.{getD}
 use Rattle.model.specs.Book.Layout.{entries, writes, formOf}
-use Rattle.model.specs.Book.Contents.{firstOf, tableCount, counterCount}
+use Rattle.model.specs.Book.Contents.{tableCount, counterCount}
 use Rattle.model.specs.Book.Scan.{fine, three, upTo, tagged, opcode}
 use Rattle.model.specs.Book.Decode.{after}
 use Rattle.model.specs.Book.Read.{sizes}
@@ -25,8 +23,9 @@ use Rattle.instr.specs.declared.Instr.{Instr}
 use Rattle.instr.specs.declared.Instr.the-variants.{LookupOrInsertDefault, LookupWithDefault, Lookup, LookupWithFallback, Insert, InsertIfEq, Remove, External, ExternalWithFallback, AssertEq, AssertNe, AssertAnyNe, ReadCounter}
 use Rattle.instr.specs.Instr.{writeBy, entryAt, writeAt, listAt, pastList, instrBy, instrAt, lookupOrInsertDefaultAt, lookupWithDefaultAt, lookupAt, lookupWithFallbackAt, insertAt, insertIfEqAt, removeAt, externalAt, externalWithFallbackAt, assertEqAt, assertNeAt, assertAnyNeAt, readCounterAt}
 use Rattle.instr.specs.InstrLaws.{entry-at}
-use Rattle.instr.specs.Meaning.{entryOf, entriesOf}
+use Rattle.instr.specs.Meaning.{entryOf}
 use Rattle.instr.specs.Stands.{Short}
+use Rattle.action.specs.ActLaws.{table-stands}
 use Rattle.simulation.specs.Reading.{Reads}
 use Rattle.simulation.specs.Building.{Writable}
 use Rattle.simulation.specs.Predicting.{TableOk}
@@ -64,7 +63,7 @@ module _ (w : List ℕ) (h : Readable w) where
   pub table-ok : (t : ℕ) → t < tableCount w → TableOk w t
   table-ok t l =
       let r = table-read w (h .contents) (h .bodies) t l in
-      record { known = l; few = omega (arith, r .1 .keys, r .1 .vals); some-column = r .1 .sum }
+      record { known = l; stands = table-stands w h t l; few = omega (arith, r .1 .keys, r .1 .vals); some-column = r .1 .sum }
 
   module _ (end : ℕ) where
     named-at : (a b p : ℕ) → PairOk (sizes w) w end a b p → Named (entryOf (entryAt w p))

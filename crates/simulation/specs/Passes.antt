@@ -11,14 +11,13 @@ use lib.Seq.{ext-getD, getD-take, length-take-le}
 use Rattle.model.specs.Basics.{only, tab}
 use Rattle.model.specs.Book.Syntax.{stale}
 use Rattle.model.specs.Machine.State.{State, going, stuck, lose}
-use Rattle.model.specs.Machine.Steps.{isLive, isNone, lanes, missed, wait, plain, clear, orStale}
+use Rattle.model.specs.Machine.Steps.{isLive, isNone, lanes, missed, wait, clear, orStale}
 use Rattle.model.specs.Laws.Logic.{either}
 use Rattle.model.specs.Laws.Lists.{length-tab, getD-tab}
 use Rattle.model.specs.Laws.Passes.{Effect, keeps, loses, gives, Passed, passed-on, Does, liveAfter, outAfter, turns-live, turns-missed, Whole, whole, stuck-stays}
-use Rattle.instr.specs.declared.Instr.the-variants as instr
 use Rattle.mask.specs.Masks.{padded, both, united, butNot, without}
 use Rattle.mask.specs.MaskLaws.{has-both, has-padded, length-padded, is-padded}
-use Rattle.lanes.specs.Lanes.{asked, isSome, orElse, answeredLanes, answeredWords, kept}
+use Rattle.lanes.specs.Lanes.{isSome, orElse, answeredLanes, answeredWords, kept}
 use Rattle.simulation.specs.Turns.{effect, verdict, Answers, Judges, wait-does, lose-does}
 
 -- ## The machine's dst as the code has it
@@ -247,6 +246,15 @@ module _ (s : State) (start : Start s) where
 
   missed-lane : (ask : ℕ → Option ℕ) (i : ℕ) → i < 256 → getD (missedLanes ask marks) i false ≡ butNot (getD (s .live) i false) (isSome (only (getD (s .live) i false) (ask i)))
   missed-lane ask i h = has-both butNot marks (answeredLanes ask marks) i h ∙ rw (answered-lane ask marks i h, has-padded (s .live) i) refl
+
+  -- a missed lane was not answered
+  pub missed-none : (ask : ℕ → Option ℕ) (i : ℕ) → i < 256 → getD (missedLanes ask marks) i false ≡ true → ask i ≡ none
+  missed-none ask i h e = by (getD (s .live) i false) (ask i) (sym (missed-lane ask i h) ∙ e)
+    where
+      by : (a : Bool) (o : Option ℕ) → butNot a (isSome (only a o)) ≡ true → o ≡ none
+      by true none q = refl
+      by true (some x) q = let z : _≡_ {A = ℕ} 0 1 = cc in absurd (omega arith)
+      by false o q = let z : _≡_ {A = ℕ} 0 1 = cc in absurd (omega arith)
 
   first-word : (ask : ℕ → Option ℕ) (i : ℕ) → i < 256 → getD (answeredWords ask marks noWords) i 0 ≡ orElse (only (getD (s .live) i false) (ask i)) stale
   first-word ask i h = answered-word ask marks noWords i h ∙ rw (has-padded (s .live) i, no-word i h) refl

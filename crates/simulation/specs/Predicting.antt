@@ -1,69 +1,64 @@
 -- The predicted row of a key: found in the log, or built and logged, in the code as in the machine.
-use Prim.Native.Nat.{ℕ, zero, suc, _+_, _*_, _<_, _≤_}
+use Prim.Native.Nat.{ℕ, _+_, _*_, _<_, _≤_}
 use mathlib.Core.Path.{_≡_, refl, sym, ap, _∙_, subst}
 use mathlib.Core.Bool.{Bool, true, false, cond}
-use mathlib.Core.Option.{Option, none, some}
+use mathlib.Core.Option.{none, some}
 use mathlib.Core.List.{List, [], _∷_, _++_}
 use native.Mathlib.Omega.{arith}
 use lib.Dec.{eqb, leb}
-use lib.ListN.{length, getD, getElem?, set, take, drop, replicate, length-set}
-use lib.Seq.{getD-take, getD-drop, take-length}
-use borrow.Author.Tests.{leb-true, eqb-true}
-use Rattle.model.specs.Basics.{found, first, only, tab, All}
-use Rattle.model.specs.Book.Syntax.{Counter, Table, width, tableAt}
+use lib.ListN.{length, set, take}
+use borrow.Author.Tests.{leb-true, eqb-true, eq-eqb}
+use Rattle.model.specs.Basics.{first}
+use Rattle.model.specs.Book.Syntax.{Counter, width}
 use Rattle.model.specs.Book.Contents.{tableCount}
 use Rattle.model.specs.Book.Decode as decode
-use Rattle.model.specs.Book.Decode.{part}
-use Rattle.model.specs.Book.Read.{tables}
-use Rattle.model.specs.Machine.State.{State, Site, Record, Bindings, Env, Status, going, stuck, spent, full, stop, note, reads, withCounters, logged, need, ifRoom, logWords}
-use Rattle.model.specs.Machine.Values.{Built, isStuck, isSpent, built, build, predictedRows}
+use Rattle.model.specs.Machine.State.{State, Site, Record, Bindings, Env, stuck, spent, full, stop, note, reads, withCounters, logged, ifRoom, logWords}
+use Rattle.model.specs.Machine.Values.{Built, isStuck, isSpent, built, build, find, isRow, predictedRows}
 use Rattle.model.specs.Machine.Steps.{tableOf, rowStart, stageNew, predictRow}
-use Rattle.model.specs.Answer.{recordWords}
-use Rattle.model.specs.Laws.Logic.{none-some, some-inj, All-append, All-at, only-yes, at-below}
+use Rattle.model.specs.Laws.Logic.{All-append, All-at, only-yes, eq-eqList}
 use Rattle.model.specs.Laws.Lists.{length-tab}
 use Rattle.model.specs.Laws.Turns.{need-ind}
 use Rattle.model.specs.Laws.Book.{keysOf, widthOf, table-keys, table-width}
 use Rattle.args.specs.declared.Args.{Args}
-use Rattle.counter.specs.declared.Counters.{Counters}
-use Rattle.counter.specs.CounterLaws.{padded}
-use Rattle.tables.specs.Tables.{front}
+use Rattle.ids.specs.declared.TableId.{TableId}
+use Rattle.tables.specs.Tables.{infoOf, Stands, front}
 use Rattle.log.specs.declared.Appended.the-variants.{Used, Full as NoRoom}
-use Rattle.log.specs.Log.{recordOf, logOf, placeOf}
-use Rattle.log.specs.LogLaws.{length-log, more-words, record-within, row-at, place-last}
+use Rattle.log.specs.Log.{logOf}
 use Rattle.predicted.specs.declared.Slot.{Slot}
 use Rattle.predicted.specs.declared.Slot.the-variants.{Hit, Free, Full as NoSlot}
 use Rattle.predicted.specs.Home.{homeOf}
 use Rattle.predicted.specs.Index.{slotOf}
-use Rattle.predicted.specs.Right.{RowAt, IndexOk}
-use Rattle.predicted.specs.RecordLaws.{at-last}
+use Rattle.predicted.specs.Right.{IndexOk}
+use Rattle.predicted.specs.Row.{soughtIn, rowOf, rowAmong}
+use Rattle.predicted.specs.RecordLaws.{rows-more}
 use Rattle.predicted.specs.HomeLaws.{home-below}
 use Rattle.predicted.specs.RightLaws.{get-hit, get-free, get-room, insert-ok}
+use Rattle.predicted.specs.RowLaws.{row-is}
 use Rattle.instr.specs.declared.Entries.{Entries}
 use Rattle.instr.specs.Instr.{writeAt}
 use Rattle.instr.specs.Meaning.{writesOf}
 use Rattle.build.specs.declared.Building.{Building}
 use Rattle.build.specs.Build as code
 use Rattle.commit.specs.RecordLaws.{Sized}
-use Rattle.execution.specs.declared.Stop.{Stop}
 use Rattle.execution.specs.declared.Stop.the-variants.{Going, Spent, Full}
 use Rattle.execution.specs.declared.ExecutionState.{ExecutionState}
-use Rattle.execution.specs.Execution.{goesOn, isGoing, Logged, staged, afterAppend}
+use Rattle.execution.specs.Execution.{goesOn, Logged, staged, afterAppend}
 use Rattle.predict.specs.declared.Row.{Row}
-use Rattle.predict.specs.declared.Got.{Got}
 use Rattle.predict.specs.Predict as flat
 use Rattle.predict.specs.Predict.{Held, Gotten, gotten}
-use Rattle.simulation.specs.Represents.{machine, LogIs, statusOf, ListIs, front-list}
+use Rattle.simulation.specs.Represents.{machine, LogIs, statusOf, ListIs, key-front}
 use Rattle.simulation.specs.Staging.{Kept, record-is, stage-is}
 use Rattle.simulation.specs.Building.{Writable, RowIs, BuildIs, ReadsAs, built-is, starts-with}
 
 -- a table of a book that can be read
 pub record TableOk (w : List ℕ) (t : ℕ) : Type 0 where
   pub known : t < tableCount w
+  pub stands : Stands w (infoOf w t)
   pub few : widthOf w t ≤ 16
   pub some-column : 0 < widthOf w t
 
--- row r was got, and the state is s′
-pub record HasRow (w : List ℕ) (L t : ℕ) (s : State) (made : Bool) (r : List ℕ) (s′ : State) (g : Gotten) : Type 0 where
+-- row r was got, and the state is s′, in which it is the predicted row of the key
+pub record HasRow (w : List ℕ) (L t : ℕ) (key : List ℕ) (s : State) (made : Bool) (r : List ℕ) (s′ : State) (g : Gotten) : Type 0 where
   pub kept : Kept s s′
   pub unchanged : s′ .changed ≡ s .changed
   pub status : s′ .status ≡ s .status
@@ -71,27 +66,28 @@ pub record HasRow (w : List ℕ) (L t : ℕ) (s : State) (made : Bool) (r : List
   pub made-is : g .got .made ≡ made
   pub goes-on : g .got .state .stop ≡ Going
   pub size : length r ≡ widthOf w t
-  pub row-is : part (g .log) (g .got .place + 2) (length r) ≡ r
-  pub within : g .got .place + 2 + length r ≤ L
+  pub row-is : first (predictedRows (tableOf (machine w L) t .keys) t key (s′ .log)) ≡ some r
 
--- a column of it
-pub column-is : (w : List ℕ) (L t : ℕ) (s : State) (made : Bool) (r : List ℕ) (s′ : State) (g : Gotten) → HasRow w L t s made r s′ g → (col y : ℕ) → getElem? r col ≡ some y → getD (g .log) (g .got .place + 2 + col) 0 ≡ y
-column-is w L t s made r s′ g h col y e =
-    sym (getD-drop (g .got .place + 2) (g .log) col 0)
-    ∙ sym (getD-take (length r) (drop (g .got .place + 2) (g .log)) col 0 (at-below r col e))
-    ∙ ap (λ (l : List ℕ). getD l col 0) (h .row-is)
-    ∙ by r col e
-  where
-    by : (r : List ℕ) (col : ℕ) → getElem? r col ≡ some y → getD r col 0 ≡ y
-    by [] col e = absurd (none-some e)
-    by (x ∷ r) zero e = some-inj e
-    by (x ∷ r) (suc col) e = by r col e
+module _ (w : List ℕ) (L : ℕ) (short : L ≤ 16384) (t : TableId) (known : t .0 < tableCount w) where
+  -- what the code reads of a key is the model's row
+  row-among : {records : List Record} {cs : List Counter} {ch : Bool} {x : ExecutionState} {log index : List ℕ} → LogIs w L records cs ch x log index → (vals : List ℕ)
+      → rowOf homeOf w log index (soughtIn w t) vals ≡ rowAmong (tableOf (machine w L) (t .0)) (t .0) (front vals (keysOf w (t .0))) records
+  row-among {records} {index = index} is vals =
+      ap (λ (l : List ℕ). rowOf homeOf w l index (soughtIn w t) vals) (is .log-is)
+      ∙ row-is homeOf w t known vals home-below index records (is .index-ok) L (is .fits) short (λ n r e kind table. All-at (Sized w) records n (is .sized) e .size ∙ rw (kind, table) (table-width w (t .0) known))
+
+  -- where none is committed it is the row that was got
+  pub got-read : {s s′ : State} {made : Bool} {r key : List ℕ} {g : Gotten} → HasRow w L (t .0) key s made r s′ g → (vals : List ℕ) → front vals (keysOf w (t .0)) ≡ key → find (tableOf (machine w L) (t .0) .keys) (tableOf (machine w L) (t .0) .rows) key ≡ none → rowOf homeOf w (g .log) (g .index) (soughtIn w t) vals ≡ r
+  got-read h vals e f = row-among (h .is) vals ∙ rw (e, f, h .row-is)
 
 module _ (w : List ℕ) (L : ℕ) (short : L ≤ 16384) (s : State) (x : ExecutionState) (log index : List ℕ) (is : LogIs w L (s .log) (s .counters) (s .changed) x log index) (on : x .stop ≡ Going)
-    (row : Row) (table : TableOk w (row .table .0)) (keys : row .keys ≡ keysOf w (row .table .0)) (few : row .vals .count ≤ 16) (ok : (k : ℕ) → k < row .vals .count → Writable w (writeAt w (row .vals .at + 2 * k)))
-    (o : Site) (b : Bindings) (m : List ℕ) (reads-as : ReadsAs b (o .lane) m) (key : List ℕ) (a : Args) (key-is : ListIs key (keysOf w (row .table .0)) a) where
+    (id : TableId) (table : TableOk w (id .0)) (vals : Entries) (few : vals .count ≤ 16) (ok : (k : ℕ) → k < vals .count → Writable w (writeAt w (vals .at + 2 * k)))
+    (o : Site) (b : Bindings) (m : List ℕ) (reads-as : ReadsAs b (o .lane) m) (key : List ℕ) (a : Args) (key-is : ListIs key (keysOf w (id .0)) a) where
   abbrev t : ℕ
-  t = row .table .0
+  t = id .0
+
+  abbrev row : Row
+  row = record { of = soughtIn w id; vals = vals }
 
   abbrev E : Env
   E = machine w L
@@ -106,13 +102,13 @@ module _ (w : List ℕ) (L : ℕ) (short : L ≤ 16384) (s : State) (x : Executi
   pub record Cases (P : State → Gotten → Type 0) (k : Bool → List ℕ → State → State) : Type 0 where
     pub sticking : (s′ : State) (g : Gotten) → s′ .status ≡ stuck → P s′ g
     pub stopping : (s′ : State) (g : Gotten) → goesOn (g .got .state .stop) ≡ false → s′ .status ≡ statusOf (g .got .state .stop) → s′ .answers ≡ s .answers → P s′ g
-    pub having : (made : Bool) (r : List ℕ) (s′ : State) (g : Gotten) → HasRow w L t s made r s′ g → P (k made r s′) g
+    pub having : (made : Bool) (r : List ℕ) (s′ : State) (g : Gotten) → HasRow w L t key s made r s′ g → P (k made r s′) g
 
-  key-front : front (a .vals) (keysOf w t) ≡ key
-  key-front = ap (λ (n : ℕ). tab (λ i. getD (a .vals) i 0) n) (sym (key-is .count)) ∙ front-list a key (keysOf w t) key-is
+  front-is : front (a .vals) (keysOf w t) ≡ key
+  front-is = key-front a key (keysOf w t) key-is
 
-  slot-is : slotOf homeOf index log t (a .vals) (row .keys) ≡ slotOf homeOf index (logOf (s .log) L) t (a .vals) (keysOf w t)
-  slot-is = rw (is .log-is, keys)
+  slot-is : slotOf homeOf index log t (a .vals) (keysOf w t) ≡ slotOf homeOf index (logOf (s .log) L) t (a .vals) (keysOf w t)
+  slot-is = rw (is .log-is)
 
   module _ (P : State → Gotten → Type 0) (k : Bool → List ℕ → State → State) (c : Cases P k) where
     -- a predicted row that is there
@@ -120,7 +116,7 @@ module _ (w : List ℕ) (L : ℕ) (short : L ≤ 16384) (s : State) (x : Executi
     unfolding predictRow
     hit p e =
         let r = get-hit homeOf home-below (keysOf w) index (s .log) (is .index-ok) L (is .fits) t (a .vals) p e in
-        let f : first (predictedRows (tableOf E t .keys) t key (s .log)) ≡ some (r .row .words) = rw (table-keys w t (table .known), ← key-front) (r .first-row) in
+        let f : first (predictedRows (tableOf E t .keys) t key (s .log)) ≡ some (r .row .words) = rw (table-keys w t (table .known), ← front-is) (r .first-row) in
         let z : length (r .row .words) ≡ widthOf w t = All-at (Sized w) (s .log) (r .index) (is .sized) (r .is) .size ∙ rw (r .kind, r .table) (table-width w t (table .known)) in
         rw f
         (c .having false (r .row .words) s (flat.bySlot w m (o .lane) row a held (Hit p)) (record {
@@ -131,8 +127,7 @@ module _ (w : List ℕ) (L : ℕ) (short : L ≤ 16384) (s : State) (x : Executi
           made-is = refl;
           goes-on = on;
           size = z;
-          row-is = ap (λ (l : List ℕ). part l (p + 2) (length (r .row .words))) (is .log-is) ∙ ap (λ (q : ℕ). part (logOf (s .log) L) (q + 2) (length (r .row .words))) (r .place) ∙ row-at (s .log) (r .index) (r .row) (r .is) L;
-          within = omega (arith, r .place, record-within (s .log) (r .index) (r .row) (r .is), is .fits);
+          row-is = f;
         }))
 
     -- a new one, in a free slot
@@ -142,6 +137,9 @@ module _ (w : List ℕ) (L : ℕ) (short : L ≤ 16384) (s : State) (x : Executi
 
       abbrev given : Logged
       given = record { state = record { used = x .used; counters = B .counters; changed = x .changed; stop = x .stop }; log = log }
+
+      none-yet : predictedRows (tableOf E t .keys) t key (s .log) ≡ []
+      none-yet = rw (table-keys w t (table .known), ← front-is) (get-free homeOf home-below (keysOf w) index (s .log) (is .index-ok) L (is .fits) t (a .vals) slot e)
 
       -- it was built, and is logged if it has room
       module _ (r : List ℕ) (cs : List Counter) (n : ℕ) (n-is : n ≡ widthOf w t) (starts : take (keysOf w t) r ≡ key) (h : RowIs w n r cs B) where
@@ -153,6 +151,13 @@ module _ (w : List ℕ) (L : ℕ) (short : L ≤ 16384) (s : State) (x : Executi
 
         abbrev all : List Record
         all = s .log ++ (new ∷ [])
+
+        -- the new row is the key's only one
+        is-one : isRow (tableOf E t .keys) t key new ≡ true
+        is-one = rw (eq-eqb t t refl) (eq-eqList (take (tableOf E t .keys) r) key (rw (table-keys w t (table .known)) starts))
+
+        only-one : first (predictedRows (tableOf E t .keys) t key all) ≡ some r
+        only-one = rw (rows-more (tableOf E t .keys) t key (s .log) new, none-yet, is-one)
 
         given-is : LogIs w L (s .log) cs (s .changed) (given .state) log index
         given-is = record { fits = is .fits; log-is = is .log-is; used = is .used; index-ok = is .index-ok; next = h .next; counted = h .counted; flag = is .flag; sized = is .sized }
@@ -168,7 +173,7 @@ module _ (w : List ℕ) (L : ℕ) (short : L ≤ 16384) (s : State) (x : Executi
             fits = leb-true (logWords all) L q;
             log-is = refl;
             used = refl;
-            index-ok = subst (λ (v : ℕ). IndexOk homeOf (keysOf w) (set index slot (v + 1)) all) (sym (is .used)) (insert-ok homeOf home-below (keysOf w) index (s .log) (is .index-ok) new L (is .fits) t (a .vals) slot e refl refl (starts ∙ sym key-front) (omega (arith, h .row-is .size, table .some-column)) (omega (arith, h .row-is .size)));
+            index-ok = subst (λ (v : ℕ). IndexOk homeOf (keysOf w) (set index slot (v + 1)) all) (sym (is .used)) (insert-ok homeOf home-below (keysOf w) index (s .log) (is .index-ok) new L (is .fits) t (a .vals) slot e refl refl (starts ∙ sym front-is) (omega (arith, h .row-is .size, table .some-column)) (omega (arith, h .row-is .size)));
             next = h .next;
             counted = h .counted;
             flag = is .flag;
@@ -177,12 +182,11 @@ module _ (w : List ℕ) (L : ℕ) (short : L ≤ 16384) (s : State) (x : Executi
           made-is = refl;
           goes-on = on;
           size = h .row-is .size ∙ n-is;
-          row-is = ap (λ (v : ℕ). part (logOf all L) (v + 2) (length r)) (is .used ∙ sym (place-last (s .log) new)) ∙ row-at all (length (s .log)) new (at-last (s .log) new) L;
-          within = omega (arith, is .used, more-words (s .log) new, leb-true (logWords all) L q);
+          row-is = only-one;
         }))
           where
             made-it : Gotten
-            made-it = record { got = record { place = x .used; made = true; state = record { used = logWords all; counters = B .counters; changed = x .changed; stop = x .stop } }; log = logOf all L; index = set index slot (x .used + 1) }
+            made-it = record { got = record { made = true; state = record { used = logWords all; counters = B .counters; changed = x .changed; stop = x .stop } }; log = logOf all L; index = set index slot (x .used + 1) }
 
             not-made : Gotten
             not-made = record { got = flat.stoppedBy (x .stop) (record { used = logWords all; counters = B .counters; changed = x .changed; stop = x .stop }); log = logOf all L; index = index }
@@ -211,7 +215,7 @@ module _ (w : List ℕ) (L : ℕ) (short : L ≤ 16384) (s : State) (x : Executi
       free : P (predictRow E o b t key (writesOf w (row .vals)) s k) (flat.bySlot w m (o .lane) row a held (Free slot))
       unfolding predictRow flat.inserted
       free =
-          let f : first (predictedRows (tableOf E t .keys) t key (s .log)) ≡ none = rw (table-keys w t (table .known), ← key-front) (ap first (get-free homeOf home-below (keysOf w) index (s .log) (is .index-ok) L (is .fits) t (a .vals) slot e)) in
+          let f : first (predictedRows (tableOf E t .keys) t key (s .log)) ≡ none = ap first none-yet in
           rw f (need-ind (λ s′. P s′ G) (rowStart E t key (writesOf w (row .vals)) (s .counters)) s _ (c .sticking (stop stuck s) G refl) begun)
 
     by-slot : (z : Slot) → slotOf homeOf index (logOf (s .log) L) t (a .vals) (keysOf w t) ≡ z → P (predictRow E o b t key (writesOf w (row .vals)) s k) (flat.bySlot w m (o .lane) row a held z)

@@ -5,16 +5,14 @@ use mathlib.Core.Logic.{_⊎_}
 use mathlib.Core.Bool.{Bool}
 use mathlib.Core.Option.{Option}
 use mathlib.Core.List.{List}
-use Rattle.model.specs.Basics.{only, All}
+use Rattle.model.specs.Basics.{All}
 use Rattle.model.specs.Machine.State.{State, stuck, Bindings, Env}
-use Rattle.model.specs.Machine.Steps.{here, lanes, missed, wait, plain, lookup, invoke, takeDefault, body}
-use Rattle.model.specs.Laws.Logic.{either}
+use Rattle.model.specs.Machine.Steps.{here, lanes, wait, plain, lookup, invoke, takeDefault, body}
 use Rattle.model.specs.Book.Contents.{tableCount}
 use Rattle.model.specs.Machine.Values.{hold}
 use Rattle.model.specs.Outcome.{envOf}
 use Rattle.bindings.specs.Columns.{columnsOf, wordOf}
 use Rattle.bindings.specs.BindingLaws.{Named, held-values}
-use Rattle.tables.specs.Tables.{infoOf}
 use Rattle.ids.specs.declared.TableId.{TableId}
 use Rattle.ids.specs.declared.ColumnId.{ColumnId}
 use Rattle.ids.specs.declared.Variable.{Variable}
@@ -24,12 +22,11 @@ use Rattle.instr.specs.declared.QueryEntry.{QueryEntry}
 use Rattle.instr.specs.declared.Instr.the-variants as instr
 use Rattle.instr.specs.Meaning.{entryOf, entriesOf, instrOf}
 use Rattle.instr.specs.Stands.{Short}
-use Rattle.hash_index.specs.Book.{rowsBefore}
 use Rattle.lanes.specs.declared.Ask.{Ask}
-use Rattle.lanes.specs.declared.Ask.the-variants.{Lookup, External}
+use Rattle.lanes.specs.declared.Ask.the-variants.{External}
 use Rattle.lanes.specs.declared.Test.{Test}
 use Rattle.lanes.specs.declared.Test.the-variants.{Eq, Ne, AnyNe}
-use Rattle.mask.specs.Masks.{padded, united, without}
+use Rattle.mask.specs.Masks.{padded, united}
 use Rattle.action.specs.Act.{rowAsk}
 use Rattle.lanes.specs.LaneLaws.{asked-entry}
 use Rattle.lanes.specs.Lanes.{entryAsk, asked, holds, answeredLanes, answeredWords, kept}
@@ -83,7 +80,7 @@ module _ (w : List ℕ) (room : ℕ → Bool) (k j : ℕ) (s : State) (start : S
   abbrev call : ℕ → (Bindings → Bindings) → ExternalFunctionId → Entries → ℕ → (State → State) → State → State
   call c held func args i miss = invoke E (here k j i) c held (func .0) (entriesOf w args) miss
 
-  looks : (t : ℕ) (args : Entries) (col : ColumnId) → t < tableCount w → Reads w args → Answers (s .bindings) (askedIn w s (Lookup (infoOf w t) (rowsBefore w t) args col)) (look t args col)
+  looks : (t : TableId) (args : Entries) (col : ColumnId) → t .0 < tableCount w → Reads w args → Answers (s .bindings) (askedIn w s (rowAsk w t args col)) (look (t .0) args col)
   looks t args col l r = lookup-does w room k j t l args col (r .0 .1) (r .1) (s .bindings)
 
   calls : (c : ℕ) (func : ExternalFunctionId) (args : Entries) → Reads w args → Answers (s .bindings) (askedIn w s (External func args)) (call c plain func args)
@@ -96,7 +93,7 @@ module _ (w : List ℕ) (room : ℕ → Bool) (k j : ℕ) (s : State) (start : S
   -- 1, before the missed lanes are served
   pub lookup-first : (table : TableId) (args : Entries) (col : ColumnId) → table .0 < tableCount w → Reads w args
       → EndsWaiting w s (lanes (λ i. lookup E (here k j i) (table .0) (entriesOf w args) (col .0) wait) s) (rowAsk w table args col)
-  lookup-first table args col l r = first-pass s start _ (look (table .0) args col) (looks (table .0) args col l r)
+  lookup-first table args col l r = first-pass s start _ (look (table .0) args col) (looks table args col l r)
 
   -- 2
   pub lookup-default : (table : TableId) (args : Entries) (col : ColumnId) (dst : Variable) (e : QueryEntry) → table .0 < tableCount w → Reads w args → Named (entryOf e)
@@ -106,13 +103,13 @@ module _ (w : List ℕ) (room : ℕ → Bool) (k j : ℕ) (s : State) (start : S
       let ask = askedIn w s (rowAsk w table args col) in
       subst (λ (given : ℕ → Option ℕ). Ends s (body E k j (instrOf w (instr.LookupWithDefault table args col dst e)) s) (padded (s .live)) (answeredWords given (missedLanes ask (padded (s .live))) (answeredWords ask (padded (s .live)) noWords)))
       (fun-ext (λ i. sym (asked-entry w (columnsOf (s .bindings)) e i)))
-      (default-pass s start ask (λ i. wordOf (columnsOf (s .bindings)) i (entryOf e)) (look (table .0) args col) (λ i. takeDefault (here k j i) (entryOf e)) (looks (table .0) args col l r) (default-does w room k j (s .bindings) e n))
+      (default-pass s start ask (λ i. wordOf (columnsOf (s .bindings)) i (entryOf e)) (look (table .0) args col) (λ i. takeDefault (here k j i) (entryOf e)) (looks table args col l r) (default-does w room k j (s .bindings) e n))
 
   -- 3
   pub lookup-drop : (table : TableId) (args : Entries) (col : ColumnId) (dst : Variable) → table .0 < tableCount w → Reads w args
       → EndsAsked w s (body E k j (instrOf w (instr.Lookup table args col dst)) s) (rowAsk w table args col)
   unfolding body instrOf
-  lookup-drop table args col dst l r = drop-pass s start _ (look (table .0) args col) (looks (table .0) args col l r)
+  lookup-drop table args col dst l r = drop-pass s start _ (look (table .0) args col) (looks table args col l r)
 
   -- 8
   pub external-drop : (func : ExternalFunctionId) (args : Entries) (dst : Variable) → Reads w args → EndsAsked w s (body E k j (instrOf w (instr.External func args dst)) s) (External func args)
@@ -123,7 +120,7 @@ module _ (w : List ℕ) (room : ℕ → Bool) (k j : ℕ) (s : State) (start : S
   pub lookup-fallback : (table : TableId) (key : Entries) (func : ExternalFunctionId) (args : Entries) (col : ColumnId) (dst : Variable) → table .0 < tableCount w → Reads w key → Reads w args
       → EndsTwice w s (body E k j (instrOf w (instr.LookupWithFallback table key func args col dst)) s) (rowAsk w table key col) (External func args)
   unfolding body instrOf
-  lookup-fallback table key func args col dst l r q = fallback-pass s start _ _ (look (table .0) key col) (call 0 (hold (dst .0)) func args) (looks (table .0) key col l r) (calls-held 0 (dst .0) func args q)
+  lookup-fallback table key func args col dst l r q = fallback-pass s start _ _ (look (table .0) key col) (call 0 (hold (dst .0)) func args) (looks table key col l r) (calls-held 0 (dst .0) func args q)
 
   -- 9
   pub external-fallback : (f1 : ExternalFunctionId) (args1 : Entries) (f2 : ExternalFunctionId) (args2 : Entries) (dst : Variable) → Reads w args1 → Reads w args2

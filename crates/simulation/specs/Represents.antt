@@ -1,16 +1,16 @@
 -- What the code holds of the plain machine's state, and how a part of a run may end in both.
 use Prim.Native.Nat.{ℕ, zero, suc, _+_, _*_, _<_, _≤_}
 use mathlib.Core.Path.{_≡_, refl, sym, ap, _∙_, subst}
-use mathlib.Core.Bool.{Bool, true, false, _&&_}
+use mathlib.Core.Bool.{Bool, true, false}
 use mathlib.Core.Option.{Option, none, some}
 use mathlib.Core.List.{List, [], _∷_}
 use mathlib.Core.Logic.{_⊎_, inl, inr}
 use native.Mathlib.Omega.{arith}
 use lib.Dec.{T, eqb, leb}
-use lib.ListN.{length, getD, take, drop, replicate, length-drop, length-replicate}
-use lib.Seq.{getD-take, take-at, ext-getD, length-take-le}
+use lib.ListN.{length, getD, replicate}
+use lib.Seq.{getD-take, ext-getD, length-take-le}
 use borrow.Author.Tests.{eqb-true}
-use Rattle.model.specs.Basics.{iter, when, only, tab, All}
+use Rattle.model.specs.Basics.{iter, when, tab, All}
 use Rattle.model.specs.Book.Syntax.{Counter, QueryEntry}
 use Rattle.model.specs.Book.Contents.{counterCount}
 use Rattle.model.specs.Machine.State.{State, Status, isGoing, going, stuck, spent, full, Record, Env, Bindings, logWords}
@@ -20,10 +20,11 @@ use Rattle.model.specs.Laws.Logic.{none-some, some-inj, only-some, either}
 use Rattle.model.specs.Laws.Lists.{length-tab, getD-tab}
 use Rattle.model.specs.Laws.Turns.{when-F}
 use Rattle.model.specs.Laws.Book.{keysOf}
-use Rattle.words.specs.Filled.{filled, length-filled}
+use Rattle.words.specs.Filled.{length-filled}
 use Rattle.args.specs.declared.Args.{Args}
 use Rattle.args.specs.Args.{asList}
 use Rattle.counter.specs.CounterLaws.{padded}
+use Rattle.tables.specs.Tables.{front}
 use Rattle.log.specs.Log.{logOf}
 use Rattle.predicted.specs.Home.{homeOf}
 use Rattle.predicted.specs.Right.{IndexOk}
@@ -111,6 +112,10 @@ pub front-list : (a : Args) (ws : List ℕ) (n : ℕ) → ListIs ws n a → tab 
 front-list a ws n h =
     let l : length (asList a) ≡ a .count = length-take-le (a .count) (a .vals) (omega (arith, h .count, h .room, h .few)) in
     ext-getD 0 (tab (λ k. getD (a .vals) k 0) (a .count)) (asList a) (length-tab _ (a .count) ∙ sym l) (λ k m. let q : k < a .count = omega (arith, length-tab (λ k. getD (a .vals) k 0) (a .count)) in getD-tab _ (a .count) k 0 q ∙ sym (getD-take (a .count) (a .vals) k 0 q)) ∙ h .words
+
+-- as the words of a key
+pub key-front : (a : Args) (key : List ℕ) (n : ℕ) → ListIs key n a → front (a .vals) n ≡ key
+key-front a key n h = ap (front (a .vals)) (sym (h .count)) ∙ front-list a key n h
 
 -- ## Lanes past the last do nothing
 

@@ -1,41 +1,36 @@
 -- The run of a book's steps: the code's is the machine's, step by step, with the bodies of the answers at the front of the answer's words.
-use Prim.Native.Nat.{ℕ, zero, suc, _+_, _-_, _*_, _<_, _≤_}
+use Prim.Native.Nat.{ℕ, zero, suc, _+_, _-_, _<_, _≤_}
 use mathlib.Core.Path.{_≡_, refl, sym, ap, _∙_, subst}
-use mathlib.Core.Logic.{_⊎_, inl, inr, _≢_}
-use mathlib.Core.Bool.{Bool, true, false, _&&_, not, cond}
+use mathlib.Core.Bool.{Bool, true, false, not, cond}
 use mathlib.Core.Option.{Option, none, some}
 use mathlib.Core.List.{List, [], _∷_, _++_, map, map-append, reverse, reverse-cons, append-nil, append-assoc}
 use native.Mathlib.Omega.{arith}
-use lib.Dec.{eqb, leb}
-use lib.ListN.{length, getD, getElem?, set, take, replicate, length-append, length-set, length-replicate}
+use lib.Dec.{eqb}
+use lib.ListN.{length, getD, getElem?, set, take, length-append, length-set}
 use lib.Seq.{take-suc-set}
-use borrow.Author.Tests.{le-leb, eq-eqb}
-use Rattle.model.specs.Basics.{iter, when, found, join, tab, least}
-use Rattle.model.specs.Book.Syntax.{Step, Counter}
+use borrow.Author.Tests.{eq-eqb}
+use Rattle.model.specs.Basics.{when, found, join, tab, least}
+use Rattle.model.specs.Book.Syntax.{Step}
 use Rattle.model.specs.Book.Words.{Refusal}
-use Rattle.model.specs.Book.Contents.{count, firstOf, endOf, kindOf, firstRule, firstStep, stepCount, counterCount, tableCount}
+use Rattle.model.specs.Book.Contents.{count, firstOf, endOf, kindOf, firstStep, stepCount}
 use Rattle.model.specs.Book.Decode.{readBatch, readPrediction}
-use Rattle.model.specs.Book.Read.{sizes, rules, stepFits, steps, stepsRefusal, counters}
+use Rattle.model.specs.Book.Read.{rules, stepFits, steps, stepsRefusal, counters}
 use Rattle.model.specs.Book.Read as read
-use Rattle.model.specs.Machine.State.{State, Status, Answer, survivors, predicted, going, stuck, isGoing, reply}
+use Rattle.model.specs.Machine.State.{State, Answer, survivors, predicted, going, stuck, isGoing}
 use Rattle.model.specs.Machine.Steps.{fresh, step, run}
 use Rattle.model.specs.Answer.{stepBody}
-use Rattle.model.specs.Laws.Logic.{either, none-some, and-join}
-use Rattle.model.specs.Laws.Lists.{length-tab, least-none}
+use Rattle.model.specs.Laws.Logic.{either, none-some}
+use Rattle.model.specs.Laws.Lists.{least-none}
 use Rattle.model.specs.Laws.Turns.{when-T, when-F}
-use Rattle.model.specs.Laws.Book.{Readable, widthOf, few-steps}
+use Rattle.model.specs.Laws.Book.{Readable, few-steps}
 use Rattle.model.specs.Laws.Kinds.{step-kind}
 use Rattle.rules.specs.RuleLaws.{at-tab}
 use Rattle.rules.specs.StepLaws.{step-batch, step-prediction}
-use Rattle.execution.specs.declared.Stop.{Stop}
 use Rattle.execution.specs.declared.Stop.the-variants.{Going}
 use Rattle.execution.specs.declared.ExecutionState.{ExecutionState}
 use Rattle.execution.specs.Execution.{goesOn, isGoing as codeGoes}
-use Rattle.predict.specs.Predict.{Answered}
+use Rattle.predict.specs.Predict.{Gotten}
 use Rattle.action.specs.Run.{Running}
-use Rattle.tables.specs.declared.Place.{Place}
-use Rattle.tables.specs.declared.Place.the-variants.{InTable, InLog}
-use Rattle.tables.specs.Tables as tables
 use Rattle.steps.specs.Steps.{IsStep, ranBatch, askedRow}
 use Rattle.steps.specs.StepsLaws.{batch-facts, columns-within, prediction-facts, writes-within}
 use Rattle.answer.specs.Layout.{stepKind}
@@ -43,12 +38,10 @@ use Rattle.answer.specs.AnswerLaws.{stepWords}
 use Rattle.answer.specs.Steps.{placed, batchWords}
 use Rattle.bindings.specs.Columns.{columnsOf}
 use Rattle.answer.specs.StepLaws as told
-use Rattle.answer.specs.Scratch.{Scratch, scratch-none, scratch-more}
-use Rattle.run.specs.declared.Progress.{Progress}
-use Rattle.run.specs.Progress.{Ran, standsIn, halted, batchTold, rowTold, bodyOf, rowBody, batchStep, predictionStep, ranStep, ranNext, ranSteps}
+use Rattle.answer.specs.Scratch.{Scratch, scratch-more}
+use Rattle.run.specs.Progress.{Ran, halted, batchTold, rowTold, bodyOf, rowBody, batchStep, predictionStep, ranStep, ranNext, ranSteps}
 use Rattle.run.specs.Progress as flat
 use Rattle.simulation.specs.Represents.{machine, LogIs, statusOf, Follows, sticks, stops, goes, not-going}
-use Rattle.simulation.specs.Batches.{BatchIs}
 use Rattle.simulation.specs.Steps.{last, BatchDone, batch-follows, RowDone, prediction-follows}
 
 -- the words of the bodies of answers, newest first
@@ -109,10 +102,6 @@ module _ (w : List ℕ) (L k : ℕ) (below : k < 64) (s : State) (a : Ran) (r : 
           ∙ sym (ap (map (λ (y : Answer). length (stepWords y))) (ap reverse e ∙ reverse-cons x (s .answers)) ∙ map-append (λ (y : Answer). length (stepWords y)) (reverse (s .answers)) (x ∷ []))
 
 -- ## One step more
-
-holds-test : (w log : List ℕ) (n : ℕ) (p : Place) → tables.Holds w log n p → standsIn w log n p ≡ true
-holds-test w log n (InTable p) h = le-leb _ _ h
-holds-test w log n (InLog p) h = le-leb _ _ h
 
 module _ (w : List ℕ) (h : Readable w) (L : ℕ) (short : L ≤ 16384) (noSteps : stepsRefusal w ≡ none) where
   fits-all : (k : ℕ) → k < stepCount w → stepFits (read.tables w) (rules w) (read.step w k) ≡ true
@@ -180,20 +169,17 @@ module _ (w : List ℕ) (h : Readable w) (L : ℕ) (short : L ≤ 16384) (noStep
               (subst (λ (t : State). LogIs w L (t .log) (t .counters) (t .changed) (b .batch .state) (b .log) (b .index)) (sym (d .ends)) (q .is)))))
 
     module _ (kind : kindOf w i ≡ 5) where
-      abbrev d : Answered
-      d = askedRow w (a .bindings) at (a .progress .state) (a .log) (a .index)
-
-      abbrev width : ℕ
-      width = widthOf w (getD w at 0)
+      abbrev g : Gotten
+      g = askedRow w (a .bindings) at (a .progress .state) (a .log) (a .index)
 
       abbrev s₂ : State
       s₂ = step (machine w L) k (readPrediction w at) s
 
       abbrev answers-it : Ran
-      answers-it = record { progress = flat.told (d .prediction .state) (rowBody w width d) (a .progress); bindings = a .bindings; log = d .log; index = d .index; answer = placed (rowBody w width d) (a .progress .at) (a .answer) }
+      answers-it = record { progress = flat.told (g .got .state) (rowBody w at g) (a .progress); bindings = a .bindings; log = g .log; index = g .index; answer = placed (rowBody w at g) (a .progress .at) (a .answer) }
 
       abbrev halts : Ran
-      halts = record { progress = halted (d .prediction .state) (a .progress); bindings = a .bindings; log = d .log; index = d .index; answer = a .answer }
+      halts = record { progress = halted (g .got .state) (a .progress); bindings = a .bindings; log = g .log; index = g .index; answer = a .answer }
 
       fit-prediction : stepFits (read.tables w) (rules w) (readPrediction w at) ≡ true
       fit-prediction = ap (stepFits (read.tables w) (rules w)) (step-prediction w h k i at l refl refl kind) ∙ fits-all k l
@@ -206,16 +192,16 @@ module _ (w : List ℕ) (h : Readable w) (L : ℕ) (short : L ≤ 16384) (noStep
       prediction-turn = by (prediction-follows w h L short at (endOf w i) (prediction-facts h is-step kind) key-within fit-prediction k s (a .progress .state) (a .bindings) (a .log) (a .index) going-s going-a (r .is))
         where
           Done : Type 0
-          Done = RowDone w h L short at (endOf w i) (prediction-facts h is-step kind) key-within fit-prediction k s (a .progress .state) (a .bindings) (a .log) (a .index) going-s going-a (r .is) s₂ d
+          Done = RowDone w h L short at (endOf w i) (prediction-facts h is-step kind) key-within fit-prediction k s (a .progress .state) (a .bindings) (a .log) (a .index) going-s going-a (r .is) s₂ g
 
-          by : Follows s s₂ (d .prediction .state .stop) Done → Runs w L (suc k) s₂ (rowTold w width d a)
+          by : Follows s s₂ (g .got .state .stop) Done → Runs w L (suc k) s₂ (rowTold w at g a)
           by (sticks e) = sticking e
-          by (stops x y z) = subst (λ (u : Bool). Runs w L (suc k) s₂ (cond (u && standsIn w (d .log) width (d .prediction .place)) answers-it halts)) (sym x) (stopped x y (r .done ∙ sym (r .count) ∙ ap length (sym z)))
+          by (stops x y z) = subst (λ (u : Bool). Runs w L (suc k) s₂ (cond u answers-it halts)) (sym x) (stopped x y (r .done ∙ sym (r .count) ∙ ap length (sym z)))
           by (goes x y q) =
-              let body : rowBody w width d ≡ stepWords (predicted (q .made) (q .row)) = rw (q .made-is, q .row-is) in
-              subst (λ (u : Bool). Runs w L (suc k) s₂ (cond u answers-it halts)) (sym (and-join (ap goesOn y) (holds-test w (d .log) width (d .prediction .place) (q .inside))))
-              (subst (λ (l : List ℕ). Runs w L (suc k) s₂ (record { progress = flat.told (d .prediction .state) l (a .progress); bindings = a .bindings; log = d .log; index = d .index; answer = placed l (a .progress .at) (a .answer) })) (sym body)
-              (going-on x y (answered-more w L k below-64 s a r (predicted (q .made) (q .row)) s₂ (d .prediction .state) (a .bindings) (d .log) (d .index) (q .answered) (sym (ap stepKind kind)) (q .log-is))))
+              let body : rowBody w at g ≡ stepWords (predicted (q .made) (q .row)) = rw (q .made-is, q .row-is) in
+              subst (λ (u : Bool). Runs w L (suc k) s₂ (cond u answers-it halts)) (sym (ap goesOn y))
+              (subst (λ (l : List ℕ). Runs w L (suc k) s₂ (record { progress = flat.told (g .got .state) l (a .progress); bindings = a .bindings; log = g .log; index = g .index; answer = placed l (a .progress .at) (a .answer) })) (sym body)
+              (going-on x y (answered-more w L k below-64 s a r (predicted (q .made) (q .row)) s₂ (g .got .state) (a .bindings) (g .log) (g .index) (q .answered) (sym (ap stepKind kind)) (q .log-is))))
 
     step-turn : Runs w L (suc k) (step (machine w L) k (read.step w k) s) (ranStep w i a)
     step-turn = either

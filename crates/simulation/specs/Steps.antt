@@ -6,32 +6,29 @@ use mathlib.Core.Option.{Option, none, some}
 use mathlib.Core.List.{List, [], _∷_}
 use native.Mathlib.Omega.{arith}
 use native.Mathlib.Decide.{decLt}
-use lib.Dec.{eqb, ltb, leb}
-use lib.ListN.{length, getD, getElem?, replicate, length-replicate}
+use lib.Dec.{eqb, ltb}
+use lib.ListN.{length, getD, getElem?, length-replicate}
 use borrow.Author.Tests.{lt-ltb, le-ltb, eqb-true}
 use Rattle.model.specs.Basics.{when, found, only, tab}
 use Rattle.model.specs.Book.Syntax.{Rule, Counter, WriteVal, width}
-use Rattle.model.specs.Book.Contents.{firstOf, endOf, kindOf, firstRule, ruleCount, tableCount}
+use Rattle.model.specs.Book.Contents.{firstOf, endOf, firstRule}
 use Rattle.model.specs.Book.Decode.{part, instrAt, instrPlace, readTable, readRule, readBatch, readPrediction}
 use Rattle.model.specs.Book.Read.{sizes, rules, stepFits}
 use Rattle.model.specs.Book.Read as read
 use Rattle.model.specs.Machine.Values.{find}
-use Rattle.model.specs.Machine.State.{State, Record, Answer, survivors, predicted, going, stuck, isGoing, mask, took, asks, note, change, frame, reply}
-use Rattle.model.specs.Machine.Steps.{here, allLive, clear, begin, end, tableOf, predictRow, predict, instructions, step}
-use Rattle.model.specs.Outcome.{ruleFirst}
+use Rattle.model.specs.Machine.State.{State, Record, Answer, survivors, predicted, going, isGoing, took, asks, note, change, frame, reply}
+use Rattle.model.specs.Machine.Steps.{here, allLive, begin, end, tableOf, predictRow, predict, instructions, step}
 use Rattle.model.specs.Laws.Logic.{and-split, some-inj, none-some, at-below, at-length}
 use Rattle.model.specs.Laws.Lists.{length-tab}
 use Rattle.model.specs.Laws.Turns.{need-ind, when-T, when-F}
-use Rattle.model.specs.Laws.Book.{Readable, keysOf, widthOf, rule-is, table-is, table-keys, table-width}
+use Rattle.model.specs.Laws.Book.{Readable, keysOf, widthOf, rule-is, table-is}
 use Rattle.model.specs.Laws.Bodies.{length-part}
 use Rattle.model.specs.Laws.Scan.{BatchWords, PredictionWords}
 use Rattle.model.specs.Laws.Kinds.{rule-read}
-use Rattle.tables.specs.TablesLaws.{row-within, found-within, rowFound, keys-is, find-model}
+use Rattle.tables.specs.TablesLaws.{row-within, rowFound, keys-is, find-model}
 use Rattle.mask.specs.Masks.{padded, firstLanes}
 use Rattle.mask.specs.MaskLaws.{first-padded}
-use Rattle.bound.specs.Bound.{has, firstBound}
 use Rattle.bound.specs.BoundLaws.{has-first, length-first}
-use Rattle.bindings.specs.Columns.{columnsOf, loaded}
 use Rattle.bindings.specs.BindingLaws.{load-is}
 use Rattle.instr.specs.Instr as code
 use Rattle.instr.specs.Instr.{writeAt}
@@ -41,9 +38,9 @@ use Rattle.args.specs.declared.Args.{Args}
 use Rattle.args.specs.Args.{wordsAt}
 use Rattle.args.specs.ArgsLaws.{words-list, words-count, words-length}
 use Rattle.predict.specs.Predict as flat
-use Rattle.predict.specs.Predict.{Held, Gotten, Answered, ofLog, byRow}
-use Rattle.log.specs.LogLaws.{length-log}
-use Rattle.action.specs.ActLaws.{table-stands}
+use Rattle.predict.specs.Predict.{Held, Gotten, noted, byRow}
+use Rattle.predicted.specs.Row.{rowOf}
+use Rattle.predicted.specs.RecordLaws.{at-past}
 use Rattle.tables.specs.Tables as tables
 use Rattle.tables.specs.declared.Found.{Found}
 use Rattle.tables.specs.declared.Found.the-variants.{At as Committed, Nothing}
@@ -52,12 +49,12 @@ use Rattle.rules.specs.RuleLaws.{at-tab, At, small-here}
 use Rattle.rules.specs.StepLaws.{batch-test, prediction-test}
 use Rattle.execution.specs.declared.Stop.the-variants.{Going}
 use Rattle.execution.specs.declared.ExecutionState.{ExecutionState}
-use Rattle.action.specs.Run.{Running, ranInstrs}
-use Rattle.steps.specs.Steps.{laneCount, startBatch, ruleOf, ranBatch, rowOf, askedRow}
+use Rattle.action.specs.Run.{Running}
+use Rattle.steps.specs.Steps.{laneCount, startBatch, ruleOf, ranBatch, rowAsked, askedRow, rowAnswered}
 use Rattle.steps.specs.StepsLaws.{lane-count-more, lane-count-most}
-use Rattle.simulation.specs.Represents.{machine, LogIs, ListIs, front-list, Follows, sticks, stops, goes, not-going}
+use Rattle.simulation.specs.Represents.{machine, LogIs, ListIs, key-front, Follows, sticks, stops, goes, not-going}
 use Rattle.simulation.specs.Building.{Writable, ReadsAs}
-use Rattle.simulation.specs.Predicting.{TableOk, HasRow, Cases, got-ind}
+use Rattle.simulation.specs.Predicting.{TableOk, HasRow, got-read, got-ind}
 use Rattle.simulation.specs.Fits.{Fits, fits, table-ok, writable-at}
 use Rattle.simulation.specs.Batches.{isBound, BatchIs, instrs-follow}
 
@@ -73,12 +70,7 @@ all-live-padded (suc v) n h = first-padded n h
 
 -- a variable is bound where the batch has a column for it
 bound-below : (cs : List (List ℕ)) (u : ℕ) → ltb u (length cs) ≡ isBound (getElem? cs u)
-bound-below cs u = elim (decLt u (length cs)) [ yes h ↦ lt-ltb u (length cs) h ∙ sym (ap isBound (at-length cs u h .1)) | no h ↦ le-ltb u (length cs) (omega arith) ∙ sym (ap isBound (past cs u (omega arith))) ]
-  where
-    past : (cs : List (List ℕ)) (u : ℕ) → length cs ≤ u → getElem? cs u ≡ none
-    past [] u h = refl
-    past (c ∷ cs) zero h = absurd (omega arith)
-    past (c ∷ cs) (suc u) h = past cs u (omega arith)
+bound-below cs u = elim (decLt u (length cs)) [ yes h ↦ lt-ltb u (length cs) h ∙ sym (ap isBound (at-length cs u h .1)) | no h ↦ le-ltb u (length cs) (omega arith) ∙ sym (ap isBound (at-past cs u (omega arith))) ]
 
 module _ (w : List ℕ) (h : Readable w) (L : ℕ) (short : L ≤ 16384) where
   -- the batch whose body begins at the word `at`
@@ -192,7 +184,7 @@ module _ (w : List ℕ) (h : Readable w) (L : ℕ) (short : L ≤ 16384) where
     a = wordsAt w (at + 2) long
 
     abbrev writes : List WriteVal
-    writes = writesOf w (rowOf w at .vals)
+    writes = writesOf w (rowAsked w at .vals)
 
     table : TableOk w t
     table = table-ok w h t (words .table)
@@ -213,15 +205,15 @@ module _ (w : List ℕ) (h : Readable w) (L : ℕ) (short : L ≤ 16384) where
       few = omega (arith, long-is, words .keys);
     }
 
-    key-front : front (a .vals) (keysOf w t) ≡ key
-    key-front = ap (λ (u : ℕ). tab (λ i. getD (a .vals) i 0) u) (sym (key-is .count)) ∙ front-list a key (keysOf w t) key-is
+    front-is : front (a .vals) (keysOf w t) ≡ key
+    front-is = key-front a key (keysOf w t) key-is
 
     -- a prediction's write values read no variable
     reads-constants : (m : List ℕ) → ReadsAs (λ _. none) 0 m
     reads-constants m (Var u) x q e = absurd (none-some e)
     reads-constants m (Const c) x q e = some-inj e
 
-    ok-writes : (k : ℕ) → k < rowOf w at .vals .count → Writable w (writeAt w (rowOf w at .vals .at + 2 * k))
+    ok-writes : (k : ℕ) → k < rowAsked w at .vals .count → Writable w (writeAt w (rowAsked w at .vals .at + 2 * k))
     ok-writes k l = writable-at w h endAt 1 2 (at + 2 + long + 1 + 2 * k) (words .writes k l)
 
     module _ (k : ℕ) (s : State) (x : ExecutionState) (m log index : List ℕ) (on : s .status ≡ going) (o : x .stop ≡ Going) (is : LogIs w L (s .log) (s .counters) (s .changed) x log index) where
@@ -229,14 +221,13 @@ module _ (w : List ℕ) (h : Readable w) (L : ℕ) (short : L ≤ 16384) where
       held = record { state = x; log = log; index = index }
 
       -- the row that was answered
-      pub record RowDone (s′ : State) (d : Answered) : Type 0 where
+      pub record RowDone (s′ : State) (g : Gotten) : Type 0 where
         pub row : List ℕ
         pub made : Bool
-        pub log-is : LogIs w L (s′ .log) (s′ .counters) (s′ .changed) (d .prediction .state) (d .log) (d .index)
+        pub log-is : LogIs w L (s′ .log) (s′ .counters) (s′ .changed) (g .got .state) (g .log) (g .index)
         pub answered : s′ .answers ≡ predicted made row ∷ s .answers
-        pub made-is : d .prediction .made ≡ made
-        pub row-is : tables.rowOf w (d .log) (widthOf w t) (d .prediction .place) ≡ row
-        pub inside : tables.Holds w (d .log) (widthOf w t) (d .prediction .place)
+        pub made-is : g .got .made ≡ made
+        pub row-is : rowAnswered w at (g .log) (g .index) ≡ row
 
       abbrev s₁ : State
       s₁ = frame (λ _. none) [] [] s
@@ -244,70 +235,63 @@ module _ (w : List ℕ) (h : Readable w) (L : ℕ) (short : L ≤ 16384) where
       abbrev answer : Bool → List ℕ → State → State
       answer new r s′ = reply (predicted new r) (note (took (here k 0 0) r) (note (asks (here k 0 0) t key r) (when new change s′)))
 
-      -- from the log
-      abbrev from-log : Gotten → Answered
-      from-log g = record { prediction = ofLog (g .got); log = g .log; index = g .index }
+      -- by the predicted row, where none is committed
+      abbrev from-log : Gotten → Gotten
+      from-log g = record { got = noted (g .got); log = g .log; index = g .index }
 
-      kept-log : (g : Gotten) {records : List Record} {cs : List Counter} {ch : Bool} (ch′ : Bool) → g .got .state .changed || g .got .made ≡ ch′ → LogIs w L records cs ch (g .got .state) (g .log) (g .index) → LogIs w L records cs ch′ (ofLog (g .got) .state) (g .log) (g .index)
+      kept-log : (g : Gotten) {records : List Record} {cs : List Counter} {ch : Bool} (ch′ : Bool) → g .got .state .changed || g .got .made ≡ ch′ → LogIs w L records cs ch (g .got .state) (g .log) (g .index) → LogIs w L records cs ch′ (noted (g .got) .state) (g .log) (g .index)
       kept-log g ch′ e q = record { fits = q .fits; log-is = q .log-is; used = q .used; index-ok = q .index-ok; next = q .next; counted = q .counted; flag = e; sized = q .sized }
 
-      row-there : (r : List ℕ) (g : Gotten) → length r ≡ widthOf w t → part (g .log) (g .got .place + 2) (length r) ≡ r → part (g .log) (g .got .place + 2) (widthOf w t) ≡ r
-      row-there r g e q = ap (λ (u : ℕ). part (g .log) (g .got .place + 2) u) (sym e) ∙ q
-
-      log-holds : {records : List Record} {cs : List Counter} {ch : Bool} (r : List ℕ) (g : Gotten) → LogIs w L records cs ch (g .got .state) (g .log) (g .index) → length r ≡ widthOf w t → g .got .place + 2 + length r ≤ L → g .got .place + 2 + widthOf w t ≤ length (g .log)
-      log-holds {records} r g q e l = omega (arith, ap length (q .log-is), length-log records L (q .fits))
-
-      having : (made : Bool) (r : List ℕ) (s′ : State) (g : Gotten) → HasRow w L t s₁ made r s′ g → Follows s (answer made r s′) (from-log g .prediction .state .stop) (RowDone (answer made r s′) (from-log g))
-      having true r s′ g q = goes (q .status ∙ on) (q .goes-on) (record {
+      having : find (tableOf (machine w L) t .keys) (tableOf (machine w L) t .rows) key ≡ none → (made : Bool) (r : List ℕ) (s′ : State) (g : Gotten) → HasRow w L t key s₁ made r s′ g → Follows s (answer made r s′) (from-log g .got .state .stop) (RowDone (answer made r s′) (from-log g))
+      unfolding rowAnswered
+      having missing true r s′ g q = goes (q .status ∙ on) (q .goes-on) (record {
         row = r;
         made = true;
         log-is = kept-log g true (ap (λ (u : Bool). g .got .state .changed || u) (q .made-is) ∙ or-true (g .got .state .changed)) (q .is);
         answered = ap (λ (l : List Answer). predicted true r ∷ l) (q .kept .answers);
         made-is = q .made-is;
-        row-is = row-there r g (q .size) (q .row-is);
-        inside = log-holds r g (q .is) (q .size) (q .within);
+        row-is = got-read w L short (record { 0 = t }) (words .table) q (a .vals) front-is missing;
       })
-      having false r s′ g q = goes (q .status ∙ on) (q .goes-on) (record {
+      having missing false r s′ g q = goes (q .status ∙ on) (q .goes-on) (record {
         row = r;
         made = false;
         log-is = kept-log g (s′ .changed) (ap (λ (u : Bool). g .got .state .changed || u) (q .made-is) ∙ or-false (g .got .state .changed) ∙ q .is .flag) (q .is);
         answered = ap (λ (l : List Answer). predicted false r ∷ l) (q .kept .answers);
         made-is = q .made-is;
-        row-is = row-there r g (q .size) (q .row-is);
-        inside = log-holds r g (q .is) (q .size) (q .within);
+        row-is = got-read w L short (record { 0 = t }) (words .table) q (a .vals) front-is missing;
       })
 
-      -- in the table
-      in-table : (p : ℕ) → tables.foundRow w (tables.infoOf w t) (a .vals) ≡ Committed p → let s′ : State = reply (predicted false (part w p (widthOf w t))) (note (took (here k 0 0) (part w p (widthOf w t))) s₁) in Follows s s′ (x .stop) (RowDone s′ (byRow w m (rowOf w at) a held (Committed p)))
+      -- by the committed row
+      in-table : (p : ℕ) → tables.foundRow w (tables.infoOf w t) (a .vals) ≡ Committed p → let s′ : State = reply (predicted false (part w p (widthOf w t))) (note (took (here k 0 0) (part w p (widthOf w t))) s₁) in Follows s s′ (x .stop) (RowDone s′ (byRow w m (rowAsked w at) a held (Committed p)))
+      unfolding rowAnswered rowOf
       in-table p e = goes on o (record {
         row = part w p (widthOf w t);
         made = false;
         log-is = is;
         answered = refl;
         made-is = refl;
-        row-is = refl;
-        inside = omega (arith, found-within w (tables.infoOf w t) (a .vals) p e, table-stands w h t (words .table) .rows);
+        row-is = rw e;
       })
 
-      pub prediction-follows : let s′ : State = step (machine w L) k (readPrediction w at) s in let d : Answered = askedRow w m at x log index in Follows s s′ (d .prediction .state .stop) (RowDone s′ d)
+      pub prediction-follows : let s′ : State = step (machine w L) k (readPrediction w at) s in let g : Gotten = askedRow w m at x log index in Follows s s′ (g .got .state .stop) (RowDone s′ g)
       unfolding step readPrediction predict askedRow flat.answered
-      prediction-follows = need-ind (λ z. Follows s z (D .prediction .state .stop) (RowDone z D)) (only (eqb (length key) (tableOf (machine w L) t .keys) && eqb (length key + length writes) (width (tableOf (machine w L) t))) (some key)) s₁ _ (sticks refl) (λ _ _. by (tables.foundRow w (tables.infoOf w t) (a .vals)) refl)
+      prediction-follows = need-ind (λ z. Follows s z (G .got .state .stop) (RowDone z G)) (only (eqb (length key) (tableOf (machine w L) t .keys) && eqb (length key + length writes) (width (tableOf (machine w L) t))) (some key)) s₁ _ (sticks refl) (λ _ _. by (tables.foundRow w (tables.infoOf w t) (a .vals)) refl)
         where
-          D : Answered
-          D = byRow w m (rowOf w at) a held (tables.foundRow w (tables.infoOf w t) (a .vals))
+          G : Gotten
+          G = byRow w m (rowAsked w at) a held (tables.foundRow w (tables.infoOf w t) (a .vals))
 
           z : Option (List ℕ) → State
           z f = found f (λ r. reply (predicted false r) (note (took (here k 0 0) r) s₁)) (λ _. predictRow (machine w L) (here k 0 0) (λ _. none) t key writes s₁ answer)
 
           find-is : find (tableOf (machine w L) t .keys) (tableOf (machine w L) t .rows) key ≡ rowFound w (widthOf w t) (tables.foundRow w (tables.infoOf w t) (a .vals))
-          find-is = rw (table-is w t (words .table)) (ap (find (readTable w (firstOf w t) .keys) (readTable w (firstOf w t) .rows)) (sym key-front ∙ ap (front (a .vals)) (sym (keys-is w (firstOf w t)))) ∙ find-model w (firstOf w t) (a .vals))
+          find-is = rw (table-is w t (words .table)) (ap (find (readTable w (firstOf w t) .keys) (readTable w (firstOf w t) .rows)) (sym front-is ∙ ap (front (a .vals)) (sym (keys-is w (firstOf w t)))) ∙ find-model w (firstOf w t) (a .vals))
 
-          by : (F : Found) → tables.foundRow w (tables.infoOf w t) (a .vals) ≡ F → let u : State = z (find (tableOf (machine w L) t .keys) (tableOf (machine w L) t .rows) key) in Follows s u (D .prediction .state .stop) (RowDone u D)
-          by F e = subst (λ (o : Option (List ℕ)). let u : State = z o in Follows s u (D .prediction .state .stop) (RowDone u D)) (sym (find-is ∙ ap (rowFound w (widthOf w t)) e))
-              (subst (λ (G : Found). let u : State = z (rowFound w (widthOf w t) F) in let d : Answered = byRow w m (rowOf w at) a held G in Follows s u (d .prediction .state .stop) (RowDone u d)) (sym e) (at-last F e))
+          by : (F : Found) → tables.foundRow w (tables.infoOf w t) (a .vals) ≡ F → let u : State = z (find (tableOf (machine w L) t .keys) (tableOf (machine w L) t .rows) key) in Follows s u (G .got .state .stop) (RowDone u G)
+          by F e = subst (λ (o : Option (List ℕ)). let u : State = z o in Follows s u (G .got .state .stop) (RowDone u G)) (sym (find-is ∙ ap (rowFound w (widthOf w t)) e))
+              (subst (λ (f : Found). let u : State = z (rowFound w (widthOf w t) F) in let g : Gotten = byRow w m (rowAsked w at) a held f in Follows s u (g .got .state .stop) (RowDone u g)) (sym e) (at-last F e))
             where
-              at-last : (F : Found) → tables.foundRow w (tables.infoOf w t) (a .vals) ≡ F → let u : State = z (rowFound w (widthOf w t) F) in let d : Answered = byRow w m (rowOf w at) a held F in Follows s u (d .prediction .state .stop) (RowDone u d)
+              at-last : (F : Found) → tables.foundRow w (tables.infoOf w t) (a .vals) ≡ F → let u : State = z (rowFound w (widthOf w t) F) in let g : Gotten = byRow w m (rowAsked w at) a held F in Follows s u (g .got .state .stop) (RowDone u g)
               at-last (Committed p) e = in-table p e
-              at-last Nothing e = got-ind w L short s₁ x log index is o (rowOf w at) table refl (words .vals) ok-writes (here k 0 0) (λ _. none) m (reads-constants m) key a key-is
-                  (λ u g. Follows s u (from-log g .prediction .state .stop) (RowDone u (from-log g))) answer
-                  (record { sticking = λ u g e. sticks e; stopping = λ u g p q r. stops p q r; having = having })
+              at-last Nothing e = got-ind w L short s₁ x log index is o (record { 0 = t }) table (rowAsked w at .vals) (words .vals) ok-writes (here k 0 0) (λ _. none) m (reads-constants m) key a key-is
+                  (λ u g. Follows s u (from-log g .got .state .stop) (RowDone u (from-log g))) answer
+                  (record { sticking = λ u g e. sticks e; stopping = λ u g p q r. stops p q r; having = having (find-is ∙ ap (rowFound w (widthOf w t)) e) })

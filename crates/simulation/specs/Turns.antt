@@ -1,5 +1,5 @@
 -- What a lane's turn in the plain machine does, in the terms of the code: w is the book's words.
-use Prim.Native.Nat.{ℕ, zero, suc, _+_, _*_, _<_, _≤_}
+use Prim.Native.Nat.{ℕ, _+_, _*_, _<_, _≤_}
 use mathlib.Core.Path.{_≡_, refl, sym, ap, _∙_, subst}
 use mathlib.Core.Logic.{inl, inr}
 use mathlib.Core.Bool.{Bool, true, false, not}
@@ -7,37 +7,37 @@ use mathlib.Core.Option.{Option, none, some}
 use mathlib.Core.List.{List, [], _∷_}
 use native.Mathlib.Omega.{arith}
 use lib.Dec.{eqb, leb, eqb→eq}
-use lib.ListN.{length, getD, getElem?, take, drop, replicate}
-use lib.Seq.{getD-drop}
+use lib.ListN.{length, getElem?, take, drop, replicate}
 use Rattle.model.specs.Basics.{found, only, when, All}
 use Rattle.model.specs.Book.Syntax.{QueryEntry as ModelEntry}
-use Rattle.model.specs.Book.Contents.{firstOf, tableCount}
-use Rattle.model.specs.Book.Decode.{part, readTable, entryAt}
+use Rattle.model.specs.Book.Contents.{tableCount}
+use Rattle.model.specs.Book.Decode.{entryAt}
 use Rattle.model.specs.Machine.State.{State, Event, reads, took, Bindings, Env, note, give, lose}
 use Rattle.model.specs.Machine.Values.{valueOf, valuesOf, listOf, find}
 use Rattle.model.specs.Machine.Functions.{apply}
 use Rattle.model.specs.Machine.Steps.{here, wait, tableOf, takeColumn, lookup, invoke, takeDefault, readPair, anyNe, assertAnyNe}
 use Rattle.model.specs.Outcome.{envOf}
-use Rattle.model.specs.Laws.Logic.{only-some, some-inj, none-some, either}
+use Rattle.model.specs.Laws.Logic.{only-some, either}
 use Rattle.model.specs.Laws.Lists.{length-tab}
-use Rattle.model.specs.Laws.Book.{table-is}
+use Rattle.model.specs.Laws.Book.{keysOf, table-keys}
 use Rattle.model.specs.Laws.Passes.{Effect, keeps, loses, gives, liveBy, outBy, Passed, passed-on, Does}
 use Rattle.model.specs.Laws.Turns.{need-ind}
 use Rattle.words.specs.Filled.{length-filled}
 use Rattle.args.specs.Args.{asList}
 use Rattle.bindings.specs.Columns.{columnsOf, wordOf, fetched, valueAt}
 use Rattle.bindings.specs.BindingLaws.{Named, word-is, fetch-is}
-use Rattle.tables.specs.declared.Found.{Found}
-use Rattle.tables.specs.declared.Found.the-variants.{At, Nothing}
-use Rattle.tables.specs.Tables.{infoOf, front, foundRow}
-use Rattle.tables.specs.TablesLaws.{front-take, rowFound, find-model}
+use Rattle.tables.specs.Tables.{front}
+use Rattle.tables.specs.TablesLaws.{front-take}
+use Rattle.predicted.specs.Home.{homeOf}
+use Rattle.predicted.specs.Row.{soughtIn}
+use Rattle.predicted.specs.RowLaws.{row-committed}
+use Rattle.ids.specs.declared.TableId.{TableId}
 use Rattle.ids.specs.declared.ColumnId.{ColumnId}
 use Rattle.ids.specs.declared.ExternalFunctionId.{ExternalFunctionId}
 use Rattle.instr.specs.declared.Entries.{Entries}
 use Rattle.instr.specs.declared.QueryEntry.{QueryEntry}
 use Rattle.instr.specs.Meaning.{entryOf, entriesOf}
-use Rattle.lanes.specs.Lanes.{listed, columnOf, asked, holds}
-use Rattle.hash_index.specs.Book.{rowsBefore}
+use Rattle.lanes.specs.Lanes.{listed, asked, holds}
 use Rattle.lanes.specs.declared.Ask.the-variants.{Lookup, External}
 use Rattle.lanes.specs.declared.Test.the-variants.{Eq, Ne, AnyNe}
 
@@ -92,16 +92,6 @@ verdict-does false i s = lose-does i s
 
 -- ## What is read
 
-elem-take : (n : ℕ) (l : List ℕ) (i x : ℕ) → getElem? (take n l) i ≡ some x → getD l i 0 ≡ x
-elem-take zero l i x e = absurd (none-some e)
-elem-take (suc n) [] i x e = absurd (none-some e)
-elem-take (suc n) (y ∷ l) zero x e = some-inj e
-elem-take (suc n) (y ∷ l) (suc i) x e = elem-take n l i x e
-
--- a word of a part that is there
-elem-part : (w : List ℕ) (p n i x : ℕ) → getElem? (part w p n) i ≡ some x → getD w (p + i) 0 ≡ x
-elem-part w p n i x e = sym (getD-drop p w i 0) ∙ elem-take n (drop p w) i x e
-
 module _ (w : List ℕ) (b : Bindings) (i : ℕ) (h : i < 256) (l : Entries) (short : l .count ≤ 16) (named : All Named (entriesOf w l)) where
   pub list-is : (ws : List ℕ) → valuesOf b i (entriesOf w l) ≡ some ws → asList (listed w (columnsOf b) i l) ≡ ws
   list-is ws e = fetch-is b i h w (l .at) (l .count) ws short named e
@@ -133,30 +123,32 @@ module _ (w : List ℕ) (room : ℕ → Bool) (k j : ℕ) where
     abbrev taken : Option (List ℕ) → State
     taken o = found o (λ r. takeColumn (here k j i) col r s₁) (λ _. miss s₁)
 
-    taken-does : (n : ℕ) (o : Found) → Does (effect e (columnOf w col o)) i s (taken (rowFound w n o))
+    -- a row has the column, or the machine is stuck
+    taken-does : (o : Option (List ℕ)) → Does (effect e (getElem? (found o (λ r. r) (λ _. [])) col)) i s (taken o)
     unfolding takeColumn
-    taken-does n (At p) =
-        need-ind (Does (gives (getD w (p + col) 0)) i s) (getElem? (part w p n) col) s₁ (λ x. give i x (note (took (here k j i) (part w p n)) s₁)) (inl refl)
-        (λ x q. subst (λ (y : ℕ). Does (gives y) i s (give i x (note (took (here k j i) (part w p n)) s₁))) (sym (elem-part w p n col x q))
-        (after-note (reads (here k j i) ks) (gives x) i s (give i x (note (took (here k j i) (part w p n)) s₁))
-        (after-note (took (here k j i) (part w p n)) (gives x) i s₁ (give i x (note (took (here k j i) (part w p n)) s₁)) (give-does i x (note (took (here k j i) (part w p n)) s₁)))))
-    taken-does n Nothing = after-note (reads (here k j i) ks) e i s (miss s₁) d
+    taken-does (some r) =
+        need-ind (Does (effect e (getElem? r col)) i s) (getElem? r col) s₁ (λ x. give i x (note (took (here k j i) r) s₁)) (inl refl)
+        (λ x q. subst (λ (o : Option ℕ). Does (effect e o) i s (give i x (note (took (here k j i) r) s₁))) (sym q)
+        (after-note (reads (here k j i) ks) (gives x) i s (give i x (note (took (here k j i) r) s₁))
+        (after-note (took (here k j i) r) (gives x) i s₁ (give i x (note (took (here k j i) r) s₁)) (give-does i x (note (took (here k j i) r) s₁)))))
+    taken-does none = after-note (reads (here k j i) ks) e i s (miss s₁) d
 
-  module _ (t : ℕ) (l : t < tableCount w) (key : Entries) (col : ColumnId) (short : key .count ≤ 16) (named : All Named (entriesOf w key)) where
-    -- the row of the key that was read
-    pub find-is : (b : Bindings) (i : ℕ) → i < 256 → (ks : List ℕ) → listOf b i (tableOf E t .keys) (entriesOf w key) ≡ some ks
-        → find (tableOf E t .keys) (tableOf E t .rows) ks ≡ rowFound w (infoOf w t .width) (foundRow w (infoOf w t) (listed w (columnsOf b) i key .vals))
-    find-is b i h ks e =
-        let q = rw (table-is w t l) at e in
-        rw (table-is w t l, ← key-is w b i h key short named (readTable w (firstOf w t) .keys) ks q) (find-model w (firstOf w t) (listed w (columnsOf b) i key .vals))
+  module _ (t : TableId) (l : t .0 < tableCount w) (key : Entries) (col : ColumnId) (short : key .count ≤ 16) (named : All Named (entriesOf w key)) where
+    -- a column of the row with the key that was read
+    asked-row : (b : Bindings) (i : ℕ) → i < 256 → (ks : List ℕ) → listOf b i (tableOf E (t .0) .keys) (entriesOf w key) ≡ some ks
+        → asked w (columnsOf b) (Lookup (soughtIn w t) key col) i ≡ getElem? (found (find (tableOf E (t .0) .keys) (tableOf E (t .0) .rows) ks) (λ r. r) (λ _. [])) (col .0)
+    unfolding asked
+    asked-row b i h ks e =
+        let q = rw (table-keys w (t .0) l) at e in
+        ap (λ (r : List ℕ). getElem? r (col .0)) (row-committed homeOf w t l (listed w (columnsOf b) i key .vals) [] ∙ ap (λ (k : List ℕ). found (find (tableOf E (t .0) .keys) (tableOf E (t .0) .rows) k) (λ r. r) (λ _. [])) (key-is w b i h key short named (keysOf w (t .0)) ks q))
 
-    pub lookup-does : (b : Bindings) → Answers b (asked w (columnsOf b) (Lookup (infoOf w t) (rowsBefore w t) key col)) (λ i miss. lookup E (here k j i) t (entriesOf w key) (col .0) miss)
-    unfolding lookup asked
+    pub lookup-does : (b : Bindings) → Answers b (asked w (columnsOf b) (Lookup (soughtIn w t) key col)) (λ i miss. lookup E (here k j i) (t .0) (entriesOf w key) (col .0) miss)
+    unfolding lookup
     lookup-does b i s miss e h same d =
-        subst (λ (b : Bindings). Does (effect e (asked w (columnsOf b) (Lookup (infoOf w t) (rowsBefore w t) key col) i)) i s (lookup E (here k j i) t (entriesOf w key) (col .0) miss s)) same
-        (need-ind (Does (effect e (asked w (columnsOf (s .bindings)) (Lookup (infoOf w t) (rowsBefore w t) key col) i)) i s) (listOf (s .bindings) i (tableOf E t .keys) (entriesOf w key)) s _ (inl refl)
-        (λ ks q. subst (λ (o : Option (List ℕ)). Does (effect e (asked w (columnsOf (s .bindings)) (Lookup (infoOf w t) (rowsBefore w t) key col) i)) i s (taken i s ks (col .0) miss e (d (note (reads (here k j i) ks) s) same) o)) (sym (find-is (s .bindings) i h ks q))
-        (taken-does i s ks (col .0) miss e (d (note (reads (here k j i) ks) s) same) (infoOf w t .width) (foundRow w (infoOf w t) (listed w (columnsOf (s .bindings)) i key .vals)))))
+        subst (λ (b : Bindings). Does (effect e (asked w (columnsOf b) (Lookup (soughtIn w t) key col) i)) i s (lookup E (here k j i) (t .0) (entriesOf w key) (col .0) miss s)) same
+        (need-ind (Does (effect e (asked w (columnsOf (s .bindings)) (Lookup (soughtIn w t) key col) i)) i s) (listOf (s .bindings) i (tableOf E (t .0) .keys) (entriesOf w key)) s _ (inl refl)
+        (λ ks q. subst (λ (o : Option ℕ). Does (effect e o) i s (taken i s ks (col .0) miss e (d (note (reads (here k j i) ks) s) same) (find (tableOf E (t .0) .keys) (tableOf E (t .0) .rows) ks))) (sym (asked-row (s .bindings) i h ks q))
+        (taken-does i s ks (col .0) miss e (d (note (reads (here k j i) ks) s) same) (find (tableOf E (t .0) .keys) (tableOf E (t .0) .rows) ks))))
 
   -- ## What is called
 

@@ -1,18 +1,20 @@
 -- What a step leaves: w is the book's words, `at` the first word of the step's body.
-use Prim.Native.Nat.{ℕ, zero, suc, _+_, _<_, _≤_}
+use Prim.Native.Nat.{ℕ, zero, suc, _+_, _<_}
 use mathlib.Core.Path.{_≡_}
 use mathlib.Core.List.{List}
 use lib.ListN.{getD, replicate}
 use Rattle.model.specs.Book.Contents.{firstOf, firstRule, firstStep, stepCount}
+use Rattle.args.specs.declared.Args.{Args}
 use Rattle.args.specs.Args.{wordsAt}
-use Rattle.tables.specs.Tables.{infoOf}
+use Rattle.predicted.specs.Home.{homeOf}
+use Rattle.predicted.specs.Row.{soughtIn, rowOf}
 use Rattle.mask.specs.Masks.{firstLanes}
 use Rattle.bound.specs.Bound.{firstBound}
 use Rattle.bindings.specs.Columns.{loaded}
 use Rattle.instr.specs.Instr.{listAt}
 use Rattle.execution.specs.declared.ExecutionState.{ExecutionState}
 use Rattle.predict.specs.declared.Row.{Row}
-use Rattle.predict.specs.Predict.{Answered, answered}
+use Rattle.predict.specs.Predict.{Gotten, answered}
 use Rattle.action.specs.Run.{Running, ranInstrs}
 
 -- entry i is a step
@@ -41,9 +43,16 @@ module _ (w : List ℕ) where
   unfoldable pub ranBatch : ℕ → ExecutionState → List ℕ → List ℕ → Running
   ranBatch at x log index = ranInstrs w (ruleOf at) (getD w (ruleOf at + 1) 0) (startBatch at x log index)
 
-  -- the row that a prediction asks for
-  abbrev pub rowOf : ℕ → Row
-  rowOf at = record { table = record { 0 = getD w at 0 }; keys = infoOf w (getD w at 0) .keys; vals = listAt w (at + 2 + getD w (at + 1) 0) }
+  -- the row that a prediction asks for, and its key
+  abbrev pub rowAsked : ℕ → Row
+  rowAsked at = record { of = soughtIn w (record { 0 = getD w at 0 }); vals = listAt w (at + 2 + getD w (at + 1) 0) }
 
-  unfoldable pub askedRow : List ℕ → ℕ → ExecutionState → List ℕ → List ℕ → Answered
-  askedRow m at x log index = answered w m (infoOf w (getD w at 0)) (rowOf at) (wordsAt w (at + 2) (getD w (at + 1) 0)) (record { state = x; log = log; index = index })
+  abbrev pub keyAsked : ℕ → Args
+  keyAsked at = wordsAt w (at + 2) (getD w (at + 1) 0)
+
+  unfoldable pub askedRow : List ℕ → ℕ → ExecutionState → List ℕ → List ℕ → Gotten
+  askedRow m at x log index = answered w m (rowAsked at) (keyAsked at) (record { state = x; log = log; index = index })
+
+  -- the row that it answers
+  unfoldable pub rowAnswered : ℕ → (log index : List ℕ) → List ℕ
+  rowAnswered at log index = rowOf homeOf w log index (rowAsked at .of) (keyAsked at .vals)

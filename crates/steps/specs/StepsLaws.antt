@@ -10,13 +10,11 @@ use Rattle.model.specs.Laws.Book.{Readable, step-entry}
 use Rattle.model.specs.Laws.Contents.{Inside}
 use Rattle.model.specs.Laws.Scan.{BatchWords, PredictionWords}
 use Rattle.model.specs.Laws.Kinds.{ok, step-inside, batch-read, prediction-read}
-use Rattle.tables.specs.Tables.{Stands, infoOf}
-use Rattle.hash_index.specs.Index.{IndexAmong}
-use Rattle.hash_index.specs.Book.{rowsBefore, BookIndex}
-use Rattle.hash_index.specs.BookLaws.{book-has}
-use Rattle.predict.specs.Predict.{RowFits}
-use Rattle.action.specs.ActLaws.{table-stands}
-use Rattle.steps.specs.Steps.{IsStep, laneCount, rowOf}
+use Rattle.hash_index.specs.Book.{BookIndex}
+use Rattle.predicted.specs.Row.{Searchable}
+use Rattle.instr.specs.Stands.{Short}
+use Rattle.action.specs.ActLaws.{searchable}
+use Rattle.steps.specs.Steps.{IsStep, laneCount, rowAsked}
 
 pub lane-count-more : (v n : ℕ) → (v ≡ 0 → ⊥) → n ≡ laneCount v n
 lane-count-more zero n h = absurd (h refl)
@@ -57,11 +55,8 @@ module _ {w : List ℕ} (h : Readable w) {i : ℕ} (s : IsStep w i) where
     pub writes-within : at + 2 + getD w (at + 1) 0 + 1 + 2 * getD w (at + 2 + getD w (at + 1) 0) 0 ≤ length w
     writes-within = omega (arith, prediction-facts .fills, body-inside .within)
 
-    pub table-here : Stands w (infoOf w (getD w at 0))
-    table-here = table-stands w h (getD w at 0) (prediction-facts .table)
+    pub table-here : {committed : List ℕ} → BookIndex w (tableCount w) committed → Searchable w committed (rowAsked w at .of)
+    table-here {committed} b = searchable w committed h b (record { 0 = getD w at 0 }) (prediction-facts .table)
 
-    pub index-here : {index : List ℕ} → BookIndex w (tableCount w) index → IndexAmong w (infoOf w (getD w at 0)) (rowsBefore w (getD w at 0)) index
-    index-here {index} b = book-has w (tableCount w) index b (getD w at 0) (prediction-facts .table)
-
-    pub row-fits : RowFits (rowOf w at)
-    row-fits = ((omega (arith, writes-within, h .most), prediction-facts .vals), table-here .few)
+    pub writes-short : Short (rowAsked w at .vals)
+    writes-short = (omega (arith, writes-within, h .most), prediction-facts .vals)

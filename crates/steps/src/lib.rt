@@ -5,17 +5,18 @@ use bound::Bound;
 use execution::ExecutionState;
 use ids::TableId;
 use mask::Mask;
-use predict::Prediction;
+use predict::Got;
 use predict::Row;
+use predicted::Sought;
 ghost use mathlib.Core.Path.{_≡_};
 ghost use Prim.Native.Nat.{_+_, _*_, _≤_, _<_};
 ghost use lib.ListN.{length};
 ghost use Rattle.model.specs.Book.Contents.{endOf, firstOf, firstRule, kindOf, tableCount};
 ghost use Rattle.model.specs.Laws.Book.{Readable};
 ghost use Rattle.hash_index.specs.Book.{BookIndex};
-ghost use Rattle.predict.specs.Predict.{Ready, Answered};
+ghost use Rattle.predict.specs.Predict.{Ready, Gotten};
 ghost use Rattle.action.specs.Run.{Running};
-ghost use Rattle.steps.specs.Steps.{IsStep, laneCount, ranBatch, askedRow};
+ghost use Rattle.steps.specs.Steps.{IsStep, laneCount, ranBatch, keyAsked, askedRow, rowAnswered};
 
 // With no columns a batch has one lane.
 fn lane_count(v: u32, lanes: usize) -> usize
@@ -55,6 +56,16 @@ pub fn run_batch(
     action::run_instrs(words, committed, base, rule, start, bindings, log, index)
 }
 
+// The key of the prediction of entry i.
+fn key_asked(words: &[u32], i: usize) -> Args
+    requires { ⌜ Readable (now words) × IsStep (now words) i × (kindOf (now words) i ≡ 5) ⌝ }
+    ensures { λ r. ⌜ r ≡ keyAsked (now (words .entry)) (firstOf (now (words .entry)) i) ⌝ }
+{
+    let at = contents::first_of(words, i);
+    let n = words::size(words::word(words, at + 1));
+    args::words_at(words, at + 2, n)
+}
+
 // The prediction of entry i. Its write values are constants and counters, so what the bindings hold does not matter.
 pub fn run_prediction(
     words: &[u32],
@@ -64,31 +75,43 @@ pub fn run_prediction(
     bindings: &[u32],
     log: &mut [u32],
     index: &mut [u32],
-) -> Prediction
+) -> Got
     requires { ⌜ Readable (now words) × BookIndex (now words) (tableCount (now words)) (now committed) × IsStep (now words) i × (kindOf (now words) i ≡ 5) × Ready state (now log) (now index) ⌝ }
-    ensures is { λ r. ⌜ _≡_ {A = Answered} (record { prediction = r; log = now (log .exit); index = now (index .exit) }) (askedRow (now (words .entry)) (now (bindings .entry)) (firstOf (now (words .entry)) i) state (now (log .entry)) (now (index .entry))) ⌝ }
+    ensures is { λ r. ⌜ _≡_ {A = Gotten} (record { got = r; log = now (log .exit); index = now (index .exit) }) (askedRow (now (words .entry)) (now (bindings .entry)) (firstOf (now (words .entry)) i) state (now (log .entry)) (now (index .entry))) ⌝ }
     ensures fits { λ r. ⌜ r .state .used ≤ length (now (log .entry)) ⌝ }
 {
     let at = contents::first_of(words, i);
-    let table = TableId(words::word(words, at));
     let n = words::size(words::word(words, at + 1));
-    let key = args::words_at(words, at + 2, n);
-    let vals = instr::list_at(words, at + 2 + n);
-    let info = tables::info_of(words, table);
     let row = Row {
-        table,
-        keys: info.keys,
-        vals,
+        of: Sought::of(words, TableId(words::word(words, at))),
+        vals: instr::list_at(words, at + 2 + n),
     };
     predict::predict_val(
         words,
         committed,
         bindings,
-        info,
         row,
-        key,
+        key_asked(words, i),
         state,
         log,
         index,
     )
+}
+
+// The row that it answers, where it stands by now.
+pub fn row_answered<'a>(
+    words: &'a [u32],
+    log: &'a [u32],
+    committed: &[u32],
+    index: &[u32],
+    i: usize,
+) -> &'a [u32]
+    requires { ⌜ Readable (now words) × BookIndex (now words) (tableCount (now words)) (now committed) × IsStep (now words) i × (kindOf (now words) i ≡ 5) ⌝ }
+    ensures { λ r. ⌜ now r ≡ rowAnswered (now (words .entry)) (firstOf (now (words .entry)) i) (now (log .entry)) (now (index .entry)) ⌝ }
+{
+    let at = contents::first_of(words, i);
+    let of = Sought::of(words, TableId(words::word(words, at)));
+    let key = key_asked(words, i);
+    let vals = key.vals;
+    predicted::row_of(words, log, committed, index, of, &vals)
 }

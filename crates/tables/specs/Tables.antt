@@ -1,4 +1,4 @@
--- Tables as they stand in a book's words: sizes, the row with a key, and a row's words.
+-- Tables as they stand in a book's words: sizes, and the row with a key.
 use Prim.Native.Nat.{ℕ, _+_, _*_, _<_, _≤_}
 use mathlib.Core.Bool.{Bool}
 use mathlib.Core.List.{List}
@@ -9,8 +9,6 @@ use Rattle.model.specs.Book.Decode.{part}
 use Rattle.tables.specs.declared.TableInfo.{TableInfo}
 use Rattle.tables.specs.declared.Found.{Found}
 use Rattle.tables.specs.declared.Found.the-variants.{At, Nothing}
-use Rattle.tables.specs.declared.Place.{Place}
-use Rattle.tables.specs.declared.Place.the-variants.{InTable, InLog}
 
 -- of the table whose body begins at b
 abbrev pub infoAt : List ℕ → ℕ → TableInfo
@@ -45,12 +43,3 @@ rowAt t i = t .at + i * t .width
 -- the first row with the key
 unfoldable pub foundRow : List ℕ → TableInfo → List ℕ → Found
 foundRow w t key = found (least (λ i. sameWords w (rowAt t i) key (t .keys)) (t .rows)) (λ i. At (rowAt t i)) (λ _. Nothing)
-
-abbrev pub rowOf : List ℕ → List ℕ → ℕ → Place → List ℕ
-rowOf table log n (InTable p) = part table p n
-rowOf table log n (InLog p) = part log p n
-
--- the row is within its words
-abbrev pub Holds : List ℕ → List ℕ → ℕ → Place → Type 0
-Holds table log n (InTable p) = p + n ≤ length table
-Holds table log n (InLog p) = p + n ≤ length log

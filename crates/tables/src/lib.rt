@@ -1,10 +1,10 @@
-// The tables of a book: their sizes, their rows by key, and a row as a part of the words that hold it.
+// The tables of a book: their sizes, and their rows by key.
 ghost use mathlib.Core.Path.{_≡_};
 ghost use Prim.Native.Nat.{_+_, _^_, _≤_, _<_};
 ghost use lib.ListN.{length, getD, replicate};
 ghost use Rattle.model.specs.Book.Contents.{firstOf};
 ghost use Rattle.words.specs.Filled.{filled};
-ghost use Rattle.tables.specs.Tables.{infoAt, infoOf, sameWords, Stands, foundRow, rowOf, Holds};
+ghost use Rattle.tables.specs.Tables.{infoAt, infoOf, sameWords, Stands, foundRow};
 
 // A table's key count, the words of a row, its merge rule, its row count, and the word of its first row.
 pub struct TableInfo {
@@ -19,12 +19,6 @@ pub struct TableInfo {
 pub enum Found {
     At(usize),
     Nothing,
-}
-
-// The word at which a row begins, of the table's words or of the log's.
-pub enum Place {
-    InTable(usize),
-    InLog(usize),
 }
 
 // Read from the book's words, where the table's body begins; of what is no table it says something or other.
@@ -113,15 +107,4 @@ pub fn find(words: &[u32], info: TableInfo, key: &[u32; 16]) -> Found
         i += 1;
     }
     Found::Nothing
-}
-
-// The row's words, as a part of whichever words hold it.
-pub fn row_of<'a>(table: &'a [u32], log: &'a [u32], width: usize, at: Place) -> &'a [u32]
-    requires { ⌜ Holds (now table) (now log) width at ⌝ }
-    ensures { λ r. ⌜ now r ≡ rowOf (now (table .entry)) (now (log .entry)) width at ⌝ }
-{
-    match at {
-        Place::InTable(p) => &table[p..p + width],
-        Place::InLog(p) => &log[p..p + width],
-    }
 }

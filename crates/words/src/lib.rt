@@ -5,6 +5,7 @@ ghost use Prim.Native.Nat.{_+_, _*_, _≤_, _<_};
 ghost use lib.ListN.{length, getD, replicate};
 ghost use lib.Seq.{paste};
 ghost use Rattle.model.specs.Basics.{tab};
+ghost use Rattle.model.specs.Book.Decode.{part};
 ghost use Rattle.model.specs.Laws.Words.{wordAt};
 
 fn wide(x: u8) -> u32
@@ -69,6 +70,20 @@ pub fn clear(buf: &mut [u32])
         buf[i] = 0;
         i += 1;
     }
+}
+
+// The words from `at` on, n of them or as many as are there.
+pub fn part<'a>(words: &'a [u32], at: usize, n: usize) -> &'a [u32]
+    ensures { λ r. ⌜ now r ≡ part (now (words .entry)) at n ⌝ }
+{
+    let len = words.len();
+    if len <= at {
+        return &words[..0];
+    }
+    if len - at <= n {
+        return &words[at..];
+    }
+    &words[at..at + n]
 }
 
 // All of `src`, into `dst` from the word `at` on.

@@ -1,11 +1,9 @@
 use mathlib.Core.Path.{ap}
 use denote.Ref.{now}
-use Rattle.model.specs.Book.Contents.{tableCount}
-use Rattle.hash_index.specs.BookLaws.{book-has}
 use Rattle.lanes.specs.LaneLaws.{entry-fits}
 use Rattle.execution.specs.Execution.{Logged}
 use Rattle.action.specs.Act.{Lanes, withLog, acted}
-use Rattle.action.specs.ActLaws.{table-stands}
+use Rattle.action.specs.ActLaws.{searchable}
 use borrow.Author.Needs.{needs}
 use Rattle.action.proofs.act.Statement.{statement}
 use Rattle.action.proofs.act.Tie as tie
@@ -34,7 +32,7 @@ fill-or-else-requires c κs =
     let p = c .before .before .before .before .before .before .before .before .before .before .before .before .pre in
     let s = rw (c .before .before .before .before .i2 .given .1) at (p .2) in
     let e = entry-fits (now (a .words)) (now (a .committed)) _ _ (c .before .entry-ask .ensures) in
-    rw (c .before .before .row-ask .ensures) ((table-stands (now (a .words)) (p .0) _ (s .0), s .1), book-has (now (a .words)) (tableCount (now (a .words))) (now (a .committed)) (p .1) _ (s .0), e .0, e .1, p .4)
+    rw (c .before .before .row-ask .ensures) ((searchable (now (a .words)) (now (a .committed)) (p .0) (p .1) _ (s .0), s .1), e, p .4)
 
 enum-known-i-3 : tie.Need-enum-known-i-3
 enum-known-i-3 c = search needs
@@ -47,7 +45,7 @@ fill-requires c κs =
     let a = c .before .before .before .before .before .before .before .before .before .before .before .args in
     let p = c .before .before .before .before .before .before .before .before .before .before .before .pre in
     let s = rw (c .before .before .before .i3 .given .1) at (p .2) in
-    rw (c .before .row-ask2 .ensures) ((table-stands (now (a .words)) (p .0) _ (s .0), s .1), book-has (now (a .words)) (tableCount (now (a .words))) (now (a .committed)) (p .1) _ (s .0), p .4)
+    rw (c .before .row-ask2 .ensures) ((searchable (now (a .words)) (now (a .committed)) (p .0) (p .1) _ (s .0), s .1), p .4)
 
 enum-known-i-4 : tie.Need-enum-known-i-4
 enum-known-i-4 c = search needs
@@ -60,7 +58,7 @@ fill-or-else-requires-2 c κs =
     let a = c .before .before .before .before .before .before .before .before .before .before .before .args in
     let p = c .before .before .before .before .before .before .before .before .before .before .before .pre in
     let s = rw (c .before .before .before .i4 .given .1) at (p .2) in
-    rw (c .before .row-ask3 .ensures) ((table-stands (now (a .words)) (p .0) _ (s .0), s .1), book-has (now (a .words)) (tableCount (now (a .words))) (now (a .committed)) (p .1) _ (s .0), s .2, tt, p .4)
+    rw (c .before .row-ask3 .ensures) ((searchable (now (a .words)) (now (a .committed)) (p .0) (p .1) _ (s .0), s .1), s .2, p .4)
 
 enum-known-i-5 : tie.Need-enum-known-i-5
 enum-known-i-5 c = search needs
@@ -99,7 +97,7 @@ fill-requires-2 : tie.Need-fill-requires-2
 fill-requires-2 c κs =
     let p = c .before .before .before .before .before .before .before .before .before .before .pre in
     let s = rw (c .before .before .i8 .given .1) at (p .2) in
-    (s .0, tt, p .4)
+    (s .0, p .4)
 
 enum-known-i-9 : tie.Need-enum-known-i-9
 enum-known-i-9 c = search needs
@@ -108,7 +106,7 @@ fill-or-else-requires-3 : tie.Need-fill-or-else-requires-3
 fill-or-else-requires-3 c κs =
     let p = c .before .before .before .before .before .before .before .before .before .before .pre in
     let s = rw (c .before .before .i9 .given .1) at (p .2) in
-    (s .0, tt, s .1, tt, p .4)
+    (s .0, s .1, p .4)
 
 enum-known-i-10 : tie.Need-enum-known-i-10
 enum-known-i-10 c = search needs

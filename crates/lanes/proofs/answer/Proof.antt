@@ -1,4 +1,3 @@
-use Rattle.lanes.specs.LaneLaws.{begins}
 use Rattle.lanes.specs.Lanes.{asked}
 use borrow.Author.Needs.{needs}
 use Rattle.lanes.proofs.answer.Statement.{statement}
@@ -8,22 +7,25 @@ enum-known-ask : tie.Need-enum-known-ask
 enum-known-ask c = search needs
 
 fetch-requires : tie.Need-fetch-requires
-fetch-requires c κs = (rw (c .before .ask .given .1) at (c .before .before .before .before .before .before .pre .0)) .1
+fetch-requires c κs = (rw (c .before .ask .given .1) at (c .before .before .before .before .before .before .pre)) .1
 
-look-up-among-requires : tie.Need-look-up-among-requires
-look-up-among-requires c κs =
-    let ask = c .before .before .before .before .ask .given .1 in
-    let p = c .before .before .before .before .before .before .before .before .before .pre in
-    ((rw ask at (p .0)) .0, rw ask at (p .1))
+slice-aggregate-row-of : tie.Need-slice-aggregate-row-of
+slice-aggregate-row-of c = search needs
+
+slice-aggregate-row-of-2 : tie.Need-slice-aggregate-row-of-2
+slice-aggregate-row-of-2 c = search needs
+
+row-of-requires : tie.Need-row-of-requires
+row-of-requires c κs = (rw (c .before .before .before .before .before .before .ask .given .1) at (c .before .before .before .before .before .before .before .before .before .before .before .pre)) .0
 
 column-requires : tie.Need-column-requires
-column-requires c κs = begins _ _ _ _ ((rw (c .before .before .before .before .before .ask .given .1) at (c .before .before .before .before .before .before .before .before .before .before .pre .0)) .0) (c .look-up-among .ensures)
+column-requires c κs = search needs
 
 enum-known-ask-2 : tie.Need-enum-known-ask-2
 enum-known-ask-2 c = search needs
 
 fetch-requires-2 : tie.Need-fetch-requires-2
-fetch-requires-2 c κs = rw (c .before .ask2 .given .1) at (c .before .before .before .before .before .before .pre .0)
+fetch-requires-2 c κs = rw (c .before .ask2 .given .1) at (c .before .before .before .before .before .before .pre)
 
 invoke-requires : tie.Need-invoke-requires
 invoke-requires c κs = search needs
@@ -39,7 +41,7 @@ enum-known-ask-4 c = search needs
 
 returns : tie.Need-returns
 unfolding asked
-returns c = rw (c .before .before .before .before .before .before .ask .given .1, ← c .before .before .before .before .fetch .ensures, ← c .before .look-up-among .ensures) (c .column .ensures)
+returns c = rw (c .before .before .before .before .before .before .before .before .ask .given .1, ← c .before .before .before .before .before .before .fetch .ensures, ← c .before .row-of .ensures) (c .column .ensures)
 
 returns-2 : tie.Need-returns-2
 unfolding asked
@@ -59,7 +61,9 @@ answer-spec =
     (tie.spec
     enum-known-ask
     fetch-requires
-    look-up-among-requires
+    slice-aggregate-row-of
+    slice-aggregate-row-of-2
+    row-of-requires
     column-requires
     enum-known-ask-2
     fetch-requires-2

@@ -73,7 +73,7 @@ loop-again c =
       search needs,
       search needs,
       filled-turn (λ k. isSome (ask k)) (l .i) _ (l .found .live) _ false (l .inv .2) (c .is-word .ensures ∙ ap isSome (c .before .before .before .answer-live .ensures)) (omega arith),
-      filled-turn f (l .i) (now (a .out)) (l .out) _ 0 (l .inv .3) (c .before .word-or .ensures ∙ rw (c .before .before .before .answer-live .ensures, word-before f (l .i) (now (a .out)) (l .out) (l .inv .3))) (omega (arith, c .before .before .before .before .before .before .before .before .before .before .before .before .before .pre .2)),
+      filled-turn f (l .i) (now (a .out)) (l .out) _ 0 (l .inv .3) (c .before .word-or .ensures ∙ rw (c .before .before .before .answer-live .ensures, word-before f (l .i) (now (a .out)) (l .out) (l .inv .3))) (omega (arith, c .before .before .before .before .before .before .before .before .before .before .before .before .before .pre .1)),
     )
 
 same-length : tie.Need-same-length Inv-loop μ-loop

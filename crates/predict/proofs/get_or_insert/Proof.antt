@@ -1,5 +1,4 @@
 use mathlib.Core.Path.{sym, _∙_}
-use native.Mathlib.Omega.{arith}
 use Rattle.predicted.specs.Home.{homeOf}
 use Rattle.predicted.specs.HomeLaws.{home-below}
 use Rattle.predicted.specs.RightLaws.{get-below}
@@ -11,8 +10,8 @@ use Rattle.predict.proofs.get_or_insert.Tie as tie
 get-requires : tie.Need-get-requires
 get-requires c κs = search needs
 
-enum-known-place : tie.Need-enum-known-place
-enum-known-place c = search needs
+enum-told : tie.Need-enum-told
+enum-told c = search needs
 
 enum-known-slot : tie.Need-enum-known-slot
 enum-known-slot c = search needs
@@ -20,10 +19,10 @@ enum-known-slot c = search needs
 insert-requires : tie.Need-insert-requires
 insert-requires c κs =
     let p = c .before .before .before .before .before .before .before .before .before .before .before .before .before .before .pre in
-    (p .0, p .1, p .2, get-below homeOf home-below _ _ _ _ _ _ (sym (c .before .before .before .before .before .get .ensures .0) ∙ c .before .before .before .slot .given .1))
+    (p .0, p .2, p .3, get-below homeOf home-below _ _ _ _ _ _ (sym (c .before .before .before .before .before .get .ensures .0) ∙ c .before .before .before .slot .given .1))
 
-enum-told : tie.Need-enum-told
-enum-told c = search needs
+enum-told-2 : tie.Need-enum-told-2
+enum-told-2 c = search needs
 
 stop-requires : tie.Need-stop-requires
 stop-requires c κs = search needs
@@ -36,10 +35,7 @@ same-length-2 c = search needs
 
 returns : tie.Need-returns
 unfolding gotten
-returns c =
-    let g = c .before .before .before .get in
-    let s = rw (c .before .place .given .1) at (g .ensures .1) in
-    (rw (← g .ensures .0, c .before .place .given .1), (c .before .before .before .before .before .before .before .before .before .before .before .before .pre .2 .used, omega (arith, s)))
+returns c = (rw (← c .before .before .get .ensures .0, c .enum-told .given .1), c .before .before .before .before .before .before .before .before .before .before .before .pre .3 .used)
 
 same-length-3 : tie.Need-same-length-3
 same-length-3 c = search needs
@@ -61,17 +57,17 @@ same-length-6 c = search needs
 
 returns-3 : tie.Need-returns-3
 unfolding gotten
-returns-3 c = (rw (← c .before .before .before .get .ensures .0, c .before .enum-told .given .1, c .stop .ensures), (rw (c .stop .ensures) (c .before .before .before .before .before .before .before .before .before .before .before .before .pre .2 .used), rw (c .stop .ensures) (omega arith)))
+returns-3 c = (rw (← c .before .before .before .get .ensures .0, c .before .enum-told2 .given .1, c .stop .ensures), rw (c .stop .ensures) (c .before .before .before .before .before .before .before .before .before .before .before .before .pre .3 .used))
 
 pub get-or-insert-spec : {M : Type 1} → statement M
 get-or-insert-spec =
     tie.close
     (tie.spec
     get-requires
-    enum-known-place
+    enum-told
     enum-known-slot
     insert-requires
-    enum-told
+    enum-told-2
     stop-requires
     same-length
     same-length-2

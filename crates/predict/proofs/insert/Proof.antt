@@ -1,4 +1,3 @@
-use native.Mathlib.Omega.{arith}
 use Rattle.predict.specs.Predict.{inserted}
 use borrow.Author.Needs.{needs}
 use Rattle.predict.proofs.insert.Statement.{statement}
@@ -12,9 +11,7 @@ stop-requires c κs = search needs
 
 returns : tie.Need-returns
 unfolding inserted
-returns c =
-    let p = c .before .before .before .before .before .before .before .pre .2 in
-    (rw (← c .before .before .build .ensures .0, c .before .if1 .taken, c .stop .ensures), (rw (c .stop .ensures) (p .used), rw (c .stop .ensures) (omega arith)))
+returns c = (rw (← c .before .before .build .ensures .0, c .before .if1 .taken, c .stop .ensures), rw (c .stop .ensures) (c .before .before .before .before .before .before .before .pre .2 .used))
 
 stage-requires : tie.Need-stage-requires
 stage-requires c κs = search needs
@@ -34,9 +31,8 @@ same-length-2 c = search needs
 returns-2 : tie.Need-returns-2
 unfolding inserted
 returns-2 c =
-    let p = c .before .before .before .before .before .before .before .before .before .before .before .before .before .before .before .before .before .before .before .before .pre .2 in
     let e = c .before .before .before .before .before .before .before .before .stage .ensures in
-    (rw (← c .before .before .before .before .before .before .before .before .before .before .before .before .before .before .before .build .ensures .0, c .before .before .before .before .before .before .before .before .before .before .before .before .before .before .if1 .left, ← e .0, ← c .before .before .before .before .before .going .ensures, c .before .before .before .before .if2 .taken, c .before .before .insert .ensures), (e .1, omega (arith, p .used, p .short)))
+    (rw (← c .before .before .before .before .before .before .before .before .before .before .before .before .before .before .before .build .ensures .0, c .before .before .before .before .before .before .before .before .before .before .before .before .before .before .if1 .left, ← e .0, ← c .before .before .before .before .before .going .ensures, c .before .before .before .before .if2 .taken, c .before .before .insert .ensures), e .1)
 
 stop-requires-2 : tie.Need-stop-requires-2
 stop-requires-2 c κs = search needs
@@ -48,7 +44,7 @@ returns-3 : tie.Need-returns-3
 unfolding inserted
 returns-3 c =
     let e = c .before .before .before .before .before .stage .ensures in
-    (rw (← c .before .before .before .before .before .before .before .before .before .before .before .before .build .ensures .0, c .before .before .before .before .before .before .before .before .before .before .before .if1 .left, ← e .0, ← c .before .before .going .ensures, c .before .if2 .left, c .stop2 .ensures), (rw (c .stop2 .ensures) (e .1), rw (c .stop2 .ensures) (omega arith)))
+    (rw (← c .before .before .before .before .before .before .before .before .before .before .before .before .build .ensures .0, c .before .before .before .before .before .before .before .before .before .before .before .if1 .left, ← e .0, ← c .before .before .going .ensures, c .before .if2 .left, c .stop2 .ensures), rw (c .stop2 .ensures) (e .1))
 
 pub insert-spec : {M : Type 1} → statement M
 insert-spec =

@@ -17,12 +17,15 @@ fetch-requires c κs = search needs
 get-or-insert-requires : tie.Need-get-or-insert-requires
 unfolding fetched
 get-or-insert-requires c κs =
-    let p = c .before .before .before .before .before .before .before .before .before .before .pre in
+    let p = c .before .before .before .before .before .before .before .before .before .before .before .pre in
     let n = ap (λ (x : Args). x .count) (c .before .before .fetch .ensures) in
-    (p .1, omega (arith, p .0 .1), p .2)
+    (p .2, p .0 .stands .few, omega (arith, p .1 .1), p .3)
+
+going-requires-2 : tie.Need-going-requires-2
+going-requires-2 c κs = search needs
 
 take-requires : tie.Need-take-requires
-take-requires c κs = (c .before .before .before .before .before .before .before .before .before .before .before .before .before .before .before .before .before .pre .3, c .before .before .before .before .before .before .get-or-insert .ensures .1 .1)
+take-requires c κs = search needs
 
 same-length : tie.Need-same-length
 same-length c = search needs
@@ -36,13 +39,13 @@ same-length-3 c = search needs
 returns : tie.Need-returns
 unfolding servedLane
 returns c =
-    let a = c .before .before .before .before .before .before .before .before .before .before .before .before .before .before .before .before .before .before .before .before .before .args in
-    let e = c .before .before .before .before .before .before .before .before .before .before .get-or-insert .ensures in
-    (rw (← c .before .before .before .before .before .before .before .before .before .before .before .before .before .before .before .going .ensures, c .before .before .before .before .before .before .before .before .before .before .before .before .before .before .if1 .taken, ← c .before .before .before .before .before .before .before .before .before .before .before .before .before .fetch .ensures, c .before .before .before .take .ensures) (ap (λ (g : Gotten). taken (a .lane .0) (a .ask .col .0) (now (a .out)) g) (e .0)), e .1 .0)
+    let a = c .before .before .before .before .before .before .before .before .before .before .before .before .before .before .before .before .before .before .before .before .before .before .before .before .args in
+    let e = c .before .before .before .before .before .before .before .before .before .before .before .before .get-or-insert .ensures in
+    (rw (← c .before .before .before .before .before .before .before .before .before .before .before .before .before .before .before .before .before .going .ensures, c .before .before .before .before .before .before .before .before .before .before .before .before .before .before .before .before .if1 .taken, ← c .before .before .before .before .before .before .before .before .before .before .before .before .before .before .before .fetch .ensures, c .before .before .take .ensures, c .before .before .before .before .before .before .going2 .ensures) (ap (λ (g : Gotten). taken (now (a .words)) (a .ask) (c .before .before .before .before .before .before .before .before .before .before .before .before .before .before .before .fetch .result .vals) (a .lane .0) (now (a .out)) g) (e .0)), e .1)
 
 returns-2 : tie.Need-returns-2
 unfolding servedLane
-returns-2 c = (rw (← c .before .going .ensures, c .if1 .left), c .before .before .before .before .before .before .before .pre .2 .used)
+returns-2 c = (rw (← c .before .going .ensures, c .if1 .left), c .before .before .before .before .before .before .before .before .pre .3 .used)
 
 pub serve-lane-spec : {M : Type 1} → statement M
 serve-lane-spec =
@@ -51,6 +54,7 @@ serve-lane-spec =
     going-requires
     fetch-requires
     get-or-insert-requires
+    going-requires-2
     take-requires
     same-length
     same-length-2

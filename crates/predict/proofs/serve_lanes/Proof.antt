@@ -12,7 +12,7 @@ use Rattle.predict.proofs.serve_lanes.Statement.{statement}
 use Rattle.predict.proofs.serve_lanes.Tie as tie
 
 abbrev Inv-loop : tie.InvT-loop
-Inv-loop words bindings ask log₀ index₀ out₀ mask n s₀ i₀ log index out s i =
+Inv-loop words committed bindings ask log₀ index₀ out₀ mask n s₀ i₀ log index out s i =
     (i ≤ n)
     × (length log ≡ length log₀)
     × (length index ≡ length index₀)
@@ -21,7 +21,7 @@ Inv-loop words bindings ask log₀ index₀ out₀ mask n s₀ i₀ log index ou
     × (_≡_ {A = Served} (record { state = s; log = log; index = index; out = out }) (iter (λ k. servedLane words bindings ask (getD (mask .live) k false) k) i (record { state = s₀; log = log₀; index = index₀; out = out₀ })))
 
 abbrev μ-loop : tie.MeasureT-loop
-μ-loop words bindings ask log₀ index₀ out₀ mask n s₀ i₀ log index out s i = n - i
+μ-loop words committed bindings ask log₀ index₀ out₀ mask n s₀ i₀ log index out s i = n - i
 
 end-requires : tie.Need-end-requires Inv-loop μ-loop
 end-requires c κs = search needs
@@ -34,10 +34,10 @@ element-copy-out-serve-lane c = search needs
 
 serve-lane-requires : tie.Need-serve-lane-requires Inv-loop μ-loop
 serve-lane-requires c κs =
-    let p = c .before .before .before .before .before .before .before .before .before .before .before .before .pre in
+    let p = c .before .before .before .before .before .before .before .before .before .before .before .before .before .pre in
     let v = c .before .before .before .before .before .loop .inv in
-    let r = p .2 in
-    (p .0, p .1, record { used = omega (arith, v .4, v .1); short = omega (arith, r .short, v .1); slots = v .2 ∙ r .slots }, omega (arith, c .before .before .before .before .loop-test .taken, p .3, v .3, c .before .before .before .before .before .before .end .ensures .1))
+    let r = p .3 in
+    (p .0, p .1, p .2, record { used = omega (arith, v .4, v .1); short = omega (arith, r .short, v .1); slots = v .2 ∙ r .slots }, omega (arith, c .before .before .before .before .loop-test .taken, p .4, v .3, c .before .before .before .before .before .before .end .ensures .1))
 
 add-i : tie.Need-add-i Inv-loop μ-loop
 add-i c = search needs
@@ -49,7 +49,7 @@ loop-again : tie.Need-loop-again Inv-loop μ-loop
 loop-again c =
     let l = c .before .before .before .before .before .before .before .before .before .before .before .before .loop in
     let r = c .before .before .before .before .before .before .serve-lane in
-    let k = r .kept .1 .1 .1 .1 .1 .1 in (
+    let k = r .kept .1 .1 .1 .1 .1 .1 .1 in (
       search needs,
       k .0 ∙ l .inv .1,
       k .1 .0 ∙ l .inv .2,
@@ -71,7 +71,7 @@ returns : tie.Need-returns Inv-loop μ-loop
 unfolding servedLanes servedLane
 returns c =
     let l = c .before .loop in
-    let m = c .before .before .before .before .before .before .before .before .args .t4 .live in
+    let m = c .before .before .before .before .before .before .before .before .before .args .t5 .live in
     (live-turns m (search needs) _ (l .i) _ _ (l .inv .5) (omega (arith, c .before .before .end .ensures .0)) (λ k q. rw q), l .inv .4)
 
 pub serve-lanes-spec : {M : Type 1} → statement M

@@ -1,8 +1,9 @@
-use mathlib.Core.Path.{_≡_, sym, _∙_}
-use Prim.Native.Nat.{_≤_, _<_, _-_}
+use mathlib.Core.Path.{_≡_, sym, ap, _∙_}
+use Prim.Native.Nat.{ℕ, _≤_, _<_, _-_}
 use native.Mathlib.Nat.{sub-zero}
 use native.Mathlib.Omega.{arith}
 use denote.Ref.{now}
+use Rattle.predicted.specs.declared.Slot.the-variants.{Hit}
 use Rattle.predicted.specs.Index.{probed, answers}
 use Rattle.predicted.specs.IndexLaws.{probe-free, probe-hit, probe-on, probe-none}
 use borrow.Author.Needs.{needs}
@@ -18,32 +19,30 @@ abbrev μ-loop : tie.MeasureT-loop
 loop-holds : tie.Need-loop-holds Inv-loop μ-loop
 loop-holds c = (search needs, search needs, rw sub-zero)
 
-mul-v : tie.Need-mul-v Inv-loop μ-loop
-mul-v c = search needs
-
-shared-slice-read-v : tie.Need-shared-slice-read-v Inv-loop μ-loop
-shared-slice-read-v c = search needs
-
-cast-v : tie.Need-cast-v Inv-loop μ-loop
-cast-v c = omega (arith, c .shared-slice-known3 .given (c .before .before .loop .s))
+size-at-requires : tie.Need-size-at-requires Inv-loop μ-loop
+size-at-requires c κs = search needs
 
 returns : tie.Need-returns Inv-loop μ-loop
 returns c =
     let l = c .before .before .before .loop in
     let a = c .before .before .before .before .before .before .args in
-    (sym (l .inv .2 ∙ probe-free (now (a .index)) (answers (now (a .log)) (a .table .0) (now (a .key)) (a .k)) 8192 (l .j) (l .s) (c .before .before .loop-test .taken) (c .if1 .taken)), tt)
+    (sym (l .inv .2 ∙ probe-free (now (a .index)) (answers (now (a .log)) (a .table .0) (now (a .key)) (a .k)) 8192 (l .j) (l .s) (c .before .before .loop-test .taken) (sym (c .before .size-at .ensures .0) ∙ c .if1 .taken)), tt)
 
 stands-requires : tie.Need-stands-requires Inv-loop μ-loop
-stands-requires c κs = omega (arith, c .before .shared-slice-known3 .given (c .before .before .before .loop .s), c .before .before .before .before .before .before .pre)
+stands-requires c κs = search needs
 
-sub-t15 : tie.Need-sub-t15 Inv-loop μ-loop
-sub-t15 c = search needs
+sub-t12 : tie.Need-sub-t12 Inv-loop μ-loop
+sub-t12 c = search needs
 
 returns-2 : tie.Need-returns-2 Inv-loop μ-loop
 returns-2 c =
     let l = c .before .before .before .before .before .loop in
     let a = c .before .before .before .before .before .before .before .before .args in
-    (sym (l .inv .2 ∙ probe-hit (now (a .index)) (answers (now (a .log)) (a .table .0) (now (a .key)) (a .k)) 8192 (l .j) (l .s) (c .before .before .before .before .loop-test .taken) (c .before .before .if1 .left) (sym (c .before .stands .ensures) ∙ c .if2 .taken)), omega (arith, c .before .before .before .shared-slice-known3 .given (l .s)))
+    let v = c .before .before .before .size-at .ensures .0 in (
+      ap (λ (x : ℕ). Hit (x - 1)) v
+          ∙ sym (l .inv .2 ∙ probe-hit (now (a .index)) (answers (now (a .log)) (a .table .0) (now (a .key)) (a .k)) 8192 (l .j) (l .s) (c .before .before .before .before .loop-test .taken) (rw v at (c .before .before .if1 .left)) (ap (answers (now (a .log)) (a .table .0) (now (a .key)) (a .k)) (sym v) ∙ sym (c .before .stands .ensures) ∙ c .if2 .taken)),
+      omega arith,
+    )
 
 next-requires : tie.Need-next-requires Inv-loop μ-loop
 next-requires c κs = search needs
@@ -58,7 +57,8 @@ loop-again : tie.Need-loop-again Inv-loop μ-loop
 loop-again c =
     let l = c .before .before .before .before .before .before .loop in
     let a = c .before .before .before .before .before .before .before .before .before .args in
-    (search needs, search needs, l .inv .2 ∙ probe-on (now (a .index)) (answers (now (a .log)) (a .table .0) (now (a .key)) (a .k)) 8192 (l .j) (l .s) (c .before .before .before .before .before .loop-test .taken) (c .before .before .before .if1 .left) (sym (c .before .before .stands .ensures) ∙ c .before .if2 .left) ∙ rw (c .next .ensures .0))
+    let v = c .before .before .before .before .size-at .ensures .0 in
+    (search needs, search needs, l .inv .2 ∙ probe-on (now (a .index)) (answers (now (a .log)) (a .table .0) (now (a .key)) (a .k)) 8192 (l .j) (l .s) (c .before .before .before .before .before .loop-test .taken) (rw v at (c .before .before .before .if1 .left)) (ap (answers (now (a .log)) (a .table .0) (now (a .key)) (a .k)) (sym v) ∙ sym (c .before .before .stands .ensures) ∙ c .before .if2 .left) ∙ rw (c .next .ensures .0))
 
 returns-3 : tie.Need-returns-3 Inv-loop μ-loop
 returns-3 c =
@@ -73,12 +73,10 @@ probe-spec =
     Inv-loop
     μ-loop
     loop-holds
-    mul-v
-    shared-slice-read-v
-    cast-v
+    size-at-requires
     returns
     stands-requires
-    sub-t15
+    sub-t12
     returns-2
     next-requires
     add-j

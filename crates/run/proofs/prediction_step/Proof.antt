@@ -1,68 +1,46 @@
 use Prim.Native.Nat.{ℕ, _+_, _≤_}
-use mathlib.Core.Path.{_≡_, sym, ap, subst, _∙_}
+use mathlib.Core.Path.{sym, ap, subst, _∙_}
+use mathlib.Core.List.{List}
 use native.Mathlib.Omega.{arith}
-use lib.ListN.{length, getD}
+use lib.ListN.{length}
 use denote.Ref.{now}
 use Rattle.model.specs.Book.Contents.{firstOf}
-use Rattle.model.specs.Laws.Book.{widthOf}
-use Rattle.model.specs.Laws.Logic.{and-split}
-use Rattle.tables.specs.declared.TableInfo.{TableInfo}
-use Rattle.tables.specs.Tables.{Holds}
-use Rattle.predict.specs.Predict.{Answered}
-use Rattle.steps.specs.StepsLaws.{entry-small}
+use Rattle.predict.specs.Predict.{Gotten}
+use Rattle.answer.specs.Steps.{placed, predictionWords}
 use Rattle.run.specs.declared.Progress.{Progress}
 use Rattle.run.specs.Progress.{Ran, advanced, rowTold, predictionStep}
-use Rattle.run.specs.ProgressLaws.{width-most, stands-holds, length-row, row-answered, row-stopped}
+use Rattle.run.specs.ProgressLaws.{row-most, row-answered, row-stopped}
 use borrow.Author.Needs.{needs}
 use Rattle.run.proofs.prediction_step.Statement.{statement}
 use Rattle.run.proofs.prediction_step.Tie as tie
 
--- the words of a row, which are 16 at most, and a row that stands in its words
-width-is : (c : tie.After-info-of) → c .info-of .result .width ≡ widthOf (now (c .before .before .before .before .before .before .before .before .before .before .before .before .before .before .before .before .before .before .args .words)) (getD (now (c .before .before .before .before .before .before .before .before .before .before .before .before .before .before .before .before .before .before .args .words)) (firstOf (now (c .before .before .before .before .before .before .before .before .before .before .before .before .before .before .before .before .before .before .args .words)) (c .before .before .before .before .before .before .before .before .before .before .before .before .before .before .before .before .before .before .args .i)) 0)
-width-is c =
-    let w = now (c .before .before .before .before .before .before .before .before .before .before .before .before .before .before .before .before .before .before .args .words) in
-    ap (λ (t : TableInfo). t .width) (c .info-of .ensures) ∙ ap (λ (t : ℕ). widthOf w t) (c .before .word .ensures ∙ ap (λ (p : ℕ). getD w p 0) (c .before .before .first-of .ensures .0))
-
-holds : (c : tie.Then1) → Holds (now (c .before .before .before .before .before .before .before .before .before .before .before .before .before .before .before .before .before .before .before .before .before .before .args .words)) (c .before .before .before .before .before .before .before .before .before .before .before .before .run-prediction .last .1 .1 .1 .1 .1 .0) (c .before .before .before .before .info-of .result .width) (c .before .before .before .before .before .before .before .before .before .before .before .before .run-prediction .result .place)
-holds c =
-    let r = c .before .before .before .before .before .before .before .before .before .before .before .before .run-prediction in
-    stands-holds (now (c .before .before .before .before .before .before .before .before .before .before .before .before .before .before .before .before .before .before .before .before .before .before .args .words)) (r .last .1 .1 .1 .1 .1 .0) (c .before .before .before .before .info-of .result .width) (r .result .place) (sym (c .before .stands-in .ensures) ∙ and-split (c .before .before .before .going .result) (c .before .stands-in .result) (c .if1 .taken) .1)
-
-most : (c : tie.After-write-prediction) → c .write-prediction .result ≤ c .before .before .before .before .before .before .before .before .before .before .before .before .before .before .before .before .before .before .before .before .before .before .before .before .before .args .p .at + 17
+-- a prediction's body has at most 17 words
+most : (c : tie.After-write-prediction) → c .write-prediction .result ≤ c .before .before .before .before .before .before .before .before .before .before .before .before .before .before .before .before .before .before .before .before .before .before .args .p .at + 17
 most c =
-    let q = c .before .before .before .before .before .before .before .before .before .before .before .before .before .before .before .before .before .before .before .before .before .before .before .before .before .pre in
-    let r = c .before .before .before .before .before .before .before .before .before .before .before .before .before .before .before .run-prediction in
-    omega (arith, c .write-prediction .ensures .1, length-row (now (c .before .before .before .before .before .before .before .before .before .before .before .before .before .before .before .before .before .before .before .before .before .before .before .before .before .args .words)) (r .last .1 .1 .1 .1 .1 .0) (c .before .before .before .before .before .before .before .info-of .result .width) (r .result .place) (holds (c .before .before .before)), width-is (c .before .before .before .before .before .before .before), width-most (q .0) (q .2) (q .3))
+    let q = c .before .before .before .before .before .before .before .before .before .before .before .before .before .before .before .before .before .before .before .before .before .before .pre in
+    let r = c .before .before .before .before .before .before .before .before .before .before .before .before .run-prediction in
+    omega (arith, c .write-prediction .ensures .1, ap length (c .before .before .row-answered .ensures), row-most (q .0) (q .2) (q .3) (r .last .1 .1 .1 .1 .1 .0) (r .last .1 .1 .1 .1 .1 .1 .0))
 
 run-prediction-requires : tie.Need-run-prediction-requires
 run-prediction-requires c κs = search needs
 
-first-of-requires : tie.Need-first-of-requires
-first-of-requires c κs = let q = c .before .before .before .before .before .before .before .before .before .before .before .before .before .before .before .pre in omega (arith, entry-small (q .0) (q .2))
-
-word-requires : tie.Need-word-requires
-word-requires c κs = search needs
-
-info-of-requires : tie.Need-info-of-requires
-info-of-requires c κs = search needs
-
 going-requires : tie.Need-going-requires
 going-requires c κs = search needs
 
-stands-in-requires : tie.Need-stands-in-requires
-stands-in-requires c κs = search needs
+row-answered-requires : tie.Need-row-answered-requires
+row-answered-requires c κs = search needs
 
 write-prediction-requires : tie.Need-write-prediction-requires
-write-prediction-requires c κs = let q = c .before .before .before .before .before .before .before .before .before .before .before .before .before .before .before .before .before .before .before .before .before .before .before .before .pre in (holds (c .before .before), omega (arith, q .4 .at))
+write-prediction-requires c κs = search needs
 
 advance-requires : tie.Need-advance-requires
-advance-requires c κs = let q = c .before .before .before .before .before .before .before .before .before .before .before .before .before .before .before .before .before .before .before .before .before .before .before .before .before .before .before .pre in (q .4 .done, omega (arith, c .before .before .write-prediction .ensures .1), omega (arith, most (c .before .before), q .4 .at))
+advance-requires c κs = let q = c .before .before .before .before .before .before .before .before .before .before .before .before .before .before .before .before .before .before .before .before .before .before .before .before .pre in (q .4 .done, omega (arith, c .before .before .write-prediction .ensures .1), omega (arith, most (c .before .before), q .4 .at))
 
 same-length : tie.Need-same-length
-same-length c = c .before .before .before .before .before .before .before .before .before .before .before .before .before .before .before .before .before .before .run-prediction .kept .1 .1 .1 .1 .1 .0
+same-length c = search needs
 
 same-length-2 : tie.Need-same-length-2
-same-length-2 c = c .before .before .before .before .before .before .before .before .before .before .before .before .before .before .before .before .before .before .run-prediction .kept .1 .1 .1 .1 .1 .1 .0
+same-length-2 c = search needs
 
 same-length-3 : tie.Need-same-length-3
 same-length-3 c = search needs
@@ -70,16 +48,16 @@ same-length-3 c = search needs
 returns : tie.Need-returns
 unfolding predictionStep
 returns c =
-    let a = c .before .before .before .before .before .before .before .before .before .before .before .before .before .before .before .before .before .before .before .before .before .before .before .before .before .before .before .before .args in
+    let a = c .before .before .before .before .before .before .before .before .before .before .before .before .before .before .before .before .before .before .before .before .before .before .before .before .before .args in
     let w = now (a .words) in
-    let r = c .before .before .before .before .before .before .before .before .before .before .before .before .before .before .before .before .before .before .run-prediction in
+    let r = c .before .before .before .before .before .before .before .before .before .before .before .before .before .before .before .run-prediction in
     let b = c .before .before .before .write-prediction in
-    let n = c .before .before .before .before .before .before .before .before .before .before .info-of .result .width in
+    let row = c .before .before .before .before .before .row-answered .ensures in
     let A : Ran = record { progress = a .p; bindings = now (a .bindings); log = now (a .log); index = now (a .index); answer = now (a .answer) } in
-    let D : Answered = record { prediction = r .result; log = r .last .1 .1 .1 .1 .1 .0; index = r .last .1 .1 .1 .1 .1 .1 .0 } in (
-      row-answered w n D A (c .advance .result) (b .last .1 .1 .1 .1 .1 .1 .0) (rw (c .before .before .before .before .before .before .before .before .before .going .ensures, c .before .before .before .before .before .before .before .stands-in .ensures) at (c .before .before .before .before .before .before .if1 .taken)) (c .advance .ensures ∙ ap (λ (e : ℕ). advanced (r .result .state) e (a .p)) (b .ensures .1)) (b .ensures .0)
-          ∙ ap (λ (k : ℕ). rowTold w k D A) (width-is (c .before .before .before .before .before .before .before .before .before .before))
-          ∙ ap (λ (x : Answered). rowTold w (widthOf w (getD w (firstOf w (a .i)) 0)) x A) (r .ensures .0),
+    let G : Gotten = record { got = r .result; log = r .last .1 .1 .1 .1 .1 .0; index = r .last .1 .1 .1 .1 .1 .1 .0 } in (
+      row-answered w (firstOf w (a .i)) G A (c .advance .result) (b .last .1 .1 .1 .0) (sym (c .before .before .before .before .before .before .before .before .before .going .ensures) ∙ c .before .before .before .before .before .before .before .before .if1 .taken)
+          (c .advance .ensures ∙ ap (λ (e : ℕ). advanced (r .result .state) e (a .p)) (b .ensures .1 ∙ ap (λ (l : List ℕ). a .p .at + length (predictionWords (r .result .made) l)) row)) (b .ensures .0 ∙ ap (λ (l : List ℕ). placed (predictionWords (r .result .made) l) (a .p .at) (now (a .answer))) row)
+          ∙ ap (λ (x : Gotten). rowTold w (firstOf w (a .i)) x A) (r .ensures .0),
       subst (λ (x : Progress). (x .state .used ≤ length (now (a .log))) × (x .done ≤ a .p .done + 1) × (x .at ≤ a .p .at + 8483)) (sym (c .advance .ensures)) (r .ensures .1, omega arith, omega (arith, most (c .before .before .before))),
     )
 
@@ -95,15 +73,13 @@ same-length-5 c = search needs
 returns-2 : tie.Need-returns-2
 unfolding predictionStep
 returns-2 c =
-    let a = c .before .before .before .before .before .before .before .before .before .before .before .before .before .before .before .before .before .before .before .before .before .before .before .args in
+    let a = c .before .before .before .before .before .before .before .before .before .before .before .before .before .before .before .before .before .before .args in
     let w = now (a .words) in
-    let r = c .before .before .before .before .before .before .before .before .before .before .before .before .before .run-prediction in
-    let n = c .before .before .before .before .before .info-of .result .width in
+    let r = c .before .before .before .before .before .before .before .before .run-prediction in
     let A : Ran = record { progress = a .p; bindings = now (a .bindings); log = now (a .log); index = now (a .index); answer = now (a .answer) } in
-    let D : Answered = record { prediction = r .result; log = r .last .1 .1 .1 .1 .1 .0; index = r .last .1 .1 .1 .1 .1 .1 .0 } in (
-      row-stopped w n D A (c .halt .result) (rw (c .before .before .before .before .going .ensures, c .before .before .stands-in .ensures) at (c .before .if1 .left)) (c .halt .ensures)
-          ∙ ap (λ (k : ℕ). rowTold w k D A) (width-is (c .before .before .before .before .before))
-          ∙ ap (λ (x : Answered). rowTold w (widthOf w (getD w (firstOf w (a .i)) 0)) x A) (r .ensures .0),
+    let G : Gotten = record { got = r .result; log = r .last .1 .1 .1 .1 .1 .0; index = r .last .1 .1 .1 .1 .1 .1 .0 } in (
+      row-stopped w (firstOf w (a .i)) G A (c .halt .result) (sym (c .before .before .going .ensures) ∙ c .before .if1 .left) (c .halt .ensures)
+          ∙ ap (λ (x : Gotten). rowTold w (firstOf w (a .i)) x A) (r .ensures .0),
       subst (λ (x : Progress). (x .state .used ≤ length (now (a .log))) × (x .done ≤ a .p .done + 1) × (x .at ≤ a .p .at + 8483)) (sym (c .halt .ensures)) (r .ensures .1, omega arith, omega arith),
     )
 
@@ -112,11 +88,8 @@ prediction-step-spec =
     tie.close
     (tie.spec
     run-prediction-requires
-    first-of-requires
-    word-requires
-    info-of-requires
     going-requires
-    stands-in-requires
+    row-answered-requires
     write-prediction-requires
     advance-requires
     same-length

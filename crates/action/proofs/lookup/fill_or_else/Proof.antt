@@ -1,3 +1,4 @@
+use mathlib.Core.Path.{_∙_}
 use borrow.Author.Needs.{needs}
 use Rattle.action.proofs.lookup.fill_or_else.Statement.{statement}
 use Rattle.action.proofs.lookup.fill_or_else.Tie as tie
@@ -9,7 +10,7 @@ difference-requires : tie.Need-difference-requires
 difference-requires c κs = search needs
 
 fill-requires-2 : tie.Need-fill-requires-2
-fill-requires-2 c κs = search needs
+fill-requires-2 c κs = (c .before .before .before .before .before .before .before .before .before .before .pre .1, c .before .before .before .before .fill .kept .1 .1 .1 .1 .1 .0 ∙ c .before .before .before .before .before .before .before .before .before .before .pre .2)
 
 union-requires : tie.Need-union-requires
 union-requires c κs = search needs

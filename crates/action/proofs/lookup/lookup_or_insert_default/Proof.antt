@@ -1,34 +1,29 @@
 use mathlib.Core.Path.{ap, _∙_}
 use denote.Ref.{now}
-use Rattle.model.specs.Book.Contents.{tableCount}
-use Rattle.hash_index.specs.BookLaws.{book-has}
 use Rattle.predict.specs.Predict.{Served}
 use Rattle.action.specs.Act.{Lanes, withServed}
-use Rattle.action.specs.ActLaws.{table-stands}
+use Rattle.action.specs.ActLaws.{searchable}
 use borrow.Author.Needs.{needs}
 use Rattle.action.proofs.lookup.lookup_or_insert_default.Statement.{statement}
 use Rattle.action.proofs.lookup.lookup_or_insert_default.Tie as tie
 
-row-ask-requires : tie.Need-row-ask-requires
-row-ask-requires c κs = search needs
+of-requires : tie.Need-of-requires
+of-requires c κs = search needs
 
 fill-requires : tie.Need-fill-requires
 fill-requires c κs =
     let a = c .before .before .before .before .before .before .before .before .args in
     let p = c .before .before .before .before .before .before .before .before .pre in
-    rw (c .before .row-ask .ensures) ((table-stands (now (a .words)) (p .0) (a .table .0) (p .2), p .3), book-has (now (a .words)) (tableCount (now (a .words))) (now (a .committed)) (p .1) (a .table .0) (p .2), p .6)
-
-info-of-requires : tie.Need-info-of-requires
-info-of-requires c κs = search needs
+    rw (c .before .of .ensures) ((searchable (now (a .words)) (now (a .committed)) (p .0) (p .1) (a .table) (p .2), p .3), p .6)
 
 difference-requires : tie.Need-difference-requires
 difference-requires c κs = search needs
 
 serve-lanes-requires : tie.Need-serve-lanes-requires
 serve-lanes-requires c κs =
-    let a = c .before .before .before .before .before .before .before .before .before .before .before .before .before .before .before .before .args in
-    let p = c .before .before .before .before .before .before .before .before .before .before .before .before .before .before .before .before .pre in
-    (p .3, (p .4, rw (c .before .before .before .before .info-of .ensures) (table-stands (now (a .words)) (p .0) (a .table .0) (p .2) .few)), p .5, c .before .before .before .before .before .before .before .fill .kept .1 .1 .1 .1 .1 .0 ∙ p .6)
+    let a = c .before .before .before .before .before .before .before .before .before .before .before .before .before .before .before .args in
+    let p = c .before .before .before .before .before .before .before .before .before .before .before .before .before .before .before .pre in
+    (rw (c .before .before .before .before .before .before .before .before .of .ensures) (searchable (now (a .words)) (now (a .committed)) (p .0) (p .1) (a .table) (p .2)), p .3, p .4, p .5, c .before .before .before .before .before .before .fill .kept .1 .1 .1 .1 .1 .0 ∙ p .6)
 
 same-length : tie.Need-same-length
 same-length c = search needs
@@ -41,19 +36,18 @@ same-length-3 c = search needs
 
 returns : tie.Need-returns
 returns c =
-    let a = c .before .before .before .before .before .before .before .before .before .before .before .before .before .before .before .before .before .before .before .before .before .before .before .args in
-    let found = c .before .before .before .before .before .before .before .before .before .before .before .before .before .before .fill .ensures in
+    let a = c .before .before .before .before .before .before .before .before .before .before .before .before .before .before .before .before .before .before .before .before .before .before .args in
+    let found = c .before .before .before .before .before .before .before .before .before .before .before .before .before .fill .ensures in
     let e = c .before .before .before .before .before .before .serve-lanes .ensures in
     let l : Lanes = record { live = a .mask .live; state = a .state; log = now (a .log); index = now (a .index); out = now (a .out) } in
-    (ap (λ (s : Served). withServed s l) (e .0 ∙ rw (c .before .before .before .before .before .before .before .before .before .before .before .info-of .ensures, c .before .before .before .before .before .before .before .before .before .before .difference .ensures, found .0, found .1, c .before .before .before .before .before .before .before .before .before .before .before .before .before .before .before .before .row-ask .ensures)), e .1)
+    (ap (λ (s : Served). withServed s l) (e .0 ∙ rw (c .before .before .before .before .before .before .before .before .before .before .difference .ensures, found .0, found .1, c .before .before .before .before .before .before .before .before .before .before .before .before .before .before .before .of .ensures)), e .1)
 
 pub lookup-or-insert-default-spec : {M : Type 1} → statement M
 lookup-or-insert-default-spec =
     tie.close
     (tie.spec
-    row-ask-requires
+    of-requires
     fill-requires
-    info-of-requires
     difference-requires
     serve-lanes-requires
     same-length

@@ -2,17 +2,13 @@ use Rattle.model.specs.Answer.{flag}
 use Rattle.answer.specs.StepLaws.{placed-fits, placed-not}
 use Rattle.answer.specs.Steps.{predictionWords}
 use Rattle.answer.specs.Runs.{put-cons}
-use Rattle.tables.specs.Tables.{rowOf}
-use lib.ListN.{length, length-set}
+use lib.ListN.{length-set}
 use denote.Ref.{now}
 use native.Mathlib.Omega.{arith}
-use mathlib.Core.Path.{_∙_, ap}
+use mathlib.Core.Path.{_∙_}
 use borrow.Author.Needs.{needs}
 use Rattle.answer.proofs.steps.write_prediction.Statement.{statement}
 use Rattle.answer.proofs.steps.write_prediction.Tie as tie
-
-row-of-requires : tie.Need-row-of-requires
-row-of-requires c κs = search needs
 
 add-end : tie.Need-add-end
 add-end c = search needs
@@ -22,9 +18,8 @@ add-end-2 c = search needs
 
 returns : tie.Need-returns
 returns c =
-    let a = c .before .before .before .before .before .args in
-    let r = ap length (c .before .row-of .ensures) in
-    (placed-not (predictionWords (a .made) (rowOf (now (a .words)) (now (a .log)) (a .width) (a .place))) (a .at) (now (a .answer)) (omega (arith, c .if1 .taken, r)), omega (arith, r))
+    let a = c .before .before .before .args in
+    (placed-not (predictionWords (a .made) (now (a .row))) (a .at) (now (a .answer)) (omega (arith, c .if1 .taken)), omega arith)
 
 flag-requires : tie.Need-flag-requires
 flag-requires c κs = search needs
@@ -46,18 +41,16 @@ same-length c = c .before .before .write .kept .1 .1 .0 ∙ simp length-set
 
 returns-2 : tie.Need-returns-2
 returns-2 c =
-    let a = c .before .before .before .before .before .before .before .before .before .before .args in
-    let r = c .before .before .before .before .before .before .row-of .ensures in
+    let a = c .before .before .before .before .before .before .before .before .args in
     let w = c .before .before .write .ensures in (
-      w .0 ∙ rw (c .before .before .before .before .flag .ensures, r) (put-cons (flag (a .made)) (rowOf (now (a .words)) (now (a .log)) (a .width) (a .place)) (now (a .answer)) (a .at)) ∙ placed-fits (predictionWords (a .made) (rowOf (now (a .words)) (now (a .log)) (a .width) (a .place))) (a .at) (now (a .answer)) (omega (arith, c .before .before .before .before .before .if1 .left, ap length r)),
-      omega (arith, w .1, ap length r),
+      w .0 ∙ rw (c .before .before .before .before .flag .ensures) (put-cons (flag (a .made)) (now (a .row)) (now (a .answer)) (a .at)) ∙ placed-fits (predictionWords (a .made) (now (a .row))) (a .at) (now (a .answer)) (omega (arith, c .before .before .before .before .before .if1 .left)),
+      omega (arith, w .1),
     )
 
 pub write-prediction-spec : {M : Type 1} → statement M
 write-prediction-spec =
     tie.close
     (tie.spec
-    row-of-requires
     add-end
     add-end-2
     returns

@@ -1,0 +1,39 @@
+use mathlib.Core.Path.{_∙_}
+use native.Mathlib.Omega.{arith}
+use Rattle.steps.specs.Steps.{rowAnswered}
+use Rattle.steps.specs.StepsLaws.{entry-small, table-here}
+use borrow.Author.Needs.{needs}
+use Rattle.steps.proofs.row_answered.Statement.{statement}
+use Rattle.steps.proofs.row_answered.Tie as tie
+
+first-of-requires : tie.Need-first-of-requires
+first-of-requires c κs = let q = c .before .before .before .before .pre in omega (arith, entry-small (q .0) (q .2))
+
+word-requires : tie.Need-word-requires
+word-requires c κs = search needs
+
+of-requires : tie.Need-of-requires
+of-requires c κs = search needs
+
+key-asked-requires : tie.Need-key-asked-requires
+key-asked-requires c κs = let q = c .before .before .before .before .before .before .before .pre in (q .0, q .2, q .3)
+
+row-of-requires : tie.Need-row-of-requires
+row-of-requires c κs =
+    let q = c .before .before .before .before .before .before .before .before .before .before .pre in
+    rw (c .before .before .before .of .ensures, c .before .before .before .before .word .ensures, c .before .before .before .before .before .first-of .ensures .0) (table-here (q .0) (q .2) (q .3) (q .1))
+
+returns : tie.Need-returns
+unfolding rowAnswered
+returns c = c .row-of .ensures ∙ rw (c .before .before .before .before .of .ensures, c .before .before .before .key-asked .ensures, c .before .before .before .before .before .word .ensures, c .before .before .before .before .before .before .first-of .ensures .0)
+
+pub row-answered-spec : {M : Type 1} → statement M
+row-answered-spec =
+    tie.close
+    (tie.spec
+    first-of-requires
+    word-requires
+    of-requires
+    key-asked-requires
+    row-of-requires
+    returns)
