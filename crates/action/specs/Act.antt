@@ -15,6 +15,8 @@ use Rattle.lanes.specs.declared.Ask.the-variants.{Lookup as AskRow, External as
 use Rattle.lanes.specs.declared.Test.{Test}
 use Rattle.lanes.specs.declared.Test.the-variants.{Eq, Ne, AnyNe}
 use Rattle.lanes.specs.Lanes.{listed, entryAsk, asked, holds, answeredLanes, answeredWords, kept}
+use Rattle.execution.specs.declared.Change.{Change}
+use Rattle.execution.specs.declared.Change.the-variants as change
 use Rattle.execution.specs.declared.ExecutionState.{ExecutionState}
 use Rattle.execution.specs.Execution.{Logged, stagedLanes}
 use Rattle.predict.specs.declared.Asking.{Asking}
@@ -69,8 +71,8 @@ module _ (w m : List ℕ) where
       let ask = rowAsk w t args col in
       withServed (servedLanes w m (asking w t args vals col) (unanswered ask (l .live)) (record { state = l .state; log = l .log; index = l .index; out = answeredWords (asked w m ask) (l .live) (l .out) })) l
 
-  abbrev pub staging : (kind : ℕ) → TableId → Entries → List Bool → Lanes → Lanes
-  staging kind t vals live l = withLog (stagedLanes kind (t .0) (λ i. listed w m i vals) live (record { state = l .state; log = l .log })) l
+  abbrev pub staging : Change → TableId → Entries → List Bool → Lanes → Lanes
+  staging c t vals live l = withLog (stagedLanes c (t .0) (λ i. listed w m i vals) live (record { state = l .state; log = l .log })) l
 
   abbrev pub testing : Test → Lanes → Lanes
   testing test l = withLanes (kept (holds w m test) (l .live)) (l .out) l
@@ -84,9 +86,9 @@ module _ (w m : List ℕ) where
   acted (LookupWithDefault t args col dst e) l = answeringOr (rowAsk w t args col) (entryAsk e) l
   acted (Lookup t args col dst) l = answering (rowAsk w t args col) l
   acted (LookupWithFallback t key f args col dst) l = answeringOr (rowAsk w t key col) (AskFunction f args) l
-  acted (Insert t vals) l = staging 0 t vals (l .live) l
-  acted (InsertIfEq t a b vals) l = staging 0 t vals (kept (holds w m (Eq a b)) (l .live)) l
-  acted (Remove t args) l = staging 1 t args (l .live) l
+  acted (Insert t vals) l = staging change.Insert t vals (l .live) l
+  acted (InsertIfEq t a b vals) l = staging change.Insert t vals (kept (holds w m (Eq a b)) (l .live)) l
+  acted (Remove t args) l = staging change.Remove t args (l .live) l
   acted (External f args dst) l = answering (AskFunction f args) l
   acted (ExternalWithFallback f1 args1 f2 args2 dst) l = answeringOr (AskFunction f1 args1) (AskFunction f2 args2) l
   acted (AssertEq a b) l = testing (Eq a b) l

@@ -8,7 +8,7 @@ use Rattle.model.specs.Basics.{iter, when}
 use Rattle.model.specs.Book.Syntax.{stale}
 use Rattle.model.specs.Book.Decode.{instrPlace}
 use Rattle.model.specs.Machine.Steps.{anyLive}
-use Rattle.bound.specs.Bound.{binding}
+use Rattle.bindings.specs.Bindings.{boundIn}
 use Rattle.bindings.specs.Columns.{bound}
 use Rattle.instr.specs.declared.Instr.{Instr}
 use Rattle.instr.specs.Instr.{instrAt}
@@ -34,7 +34,7 @@ abbrev pub begun : Running → Lanes
 begun r = record { live = r .batch .mask .live; state = r .batch .state; log = r .log; index = r .index; out = replicate 256 stale }
 
 abbrev pub finished : Option ℕ → Lanes → Running → Running
-finished dst l r = record { batch = record { lanes = r .batch .lanes; mask = record { live = l .live }; bound = binding dst (r .batch .bound); state = l .state }; bindings = boundTo dst (r .batch .lanes) (l .out) (r .bindings); log = l .log; index = l .index }
+finished dst l r = record { batch = record { bindings = boundIn dst (r .batch .bindings); mask = record { live = l .live }; state = l .state }; bindings = boundTo dst (r .batch .bindings .matches) (l .out) (r .bindings); log = l .log; index = l .index }
 
 module _ (w : List ℕ) where
   unfoldable pub ranInstr : Instr → Running → Running

@@ -1,10 +1,10 @@
 // The interpreter: the instructions of a rule act on the lanes of a batch, one after the other. An index of the book's rows is lent as `committed`, or an empty one for none.
 mod lookup;
 
-use bound::Bound;
+use bindings::Bindings;
+use execution::Change;
 use execution::ExecutionState;
 use execution::Staging;
-use ids::CounterId;
 use instr::Dst;
 use instr::Instr;
 use lanes::Ask;
@@ -16,19 +16,17 @@ ghost use lib.ListN.{length, getD};
 ghost use Rattle.model.specs.Book.Contents.{firstOf, firstRule, ruleCount, tableCount};
 ghost use Rattle.model.specs.Laws.Book.{Readable};
 ghost use Rattle.hash_index.specs.Book.{BookIndex};
+ghost use Rattle.bindings.specs.Bindings.{boundIn};
 ghost use Rattle.instr.specs.Instr.{instrAt};
 ghost use Rattle.instr.specs.Stands.{Stands, IsVariable, variableOf};
-ghost use Rattle.lanes.specs.declared.Ask.the-variants.{Const};
-ghost use Rattle.lanes.specs.Lanes.{asked, answeredWords};
 ghost use Rattle.predict.specs.Predict.{Ready};
 ghost use Rattle.action.specs.Act.{Lanes, acted};
 ghost use Rattle.action.specs.Run.{Running, boundTo, ranInstr, ranNext, ranInstrs};
 
-// A batch as it runs: how many lanes it has, which are live, which variables are bound, and what the run keeps.
+// A batch as it runs: what its bindings keep beside the lent words, which lanes are live, and what the run keeps.
 pub struct Batch {
-    pub lanes: usize,
+    pub bindings: Bindings,
     pub mask: Mask,
-    pub bound: Bound,
     pub state: ExecutionState,
 }
 
@@ -36,24 +34,6 @@ pub struct Batch {
 pub struct Acted {
     pub mask: Mask,
     pub state: ExecutionState,
-}
-
-// A counter's next in every lane of the mask.
-fn read_counter(
-    words: &[u32],
-    committed: &[u32],
-    bindings: &[u32],
-    counter: CounterId,
-    mask: Mask,
-    state: ExecutionState,
-    out: &mut [u32],
-)
-    requires { ⌜ length (now out) ≡ 256 ⌝ }
-    ensures { λ _. ⌜ now (out .exit) ≡ answeredWords (asked (now (words .entry)) (now (bindings .entry)) (Const (getD (state .counters .next) (counter .0) 0))) (mask .live) (now (out .entry)) ⌝ }
-{
-    let counters = state.counters;
-    let next = counters.read(counter);
-    lanes::fill(words, committed, bindings, Ask::Const(next), mask, out);
 }
 
 // The lanes' part of an instruction; its dst is left in `out`.
@@ -154,7 +134,7 @@ fn act(
                 words,
                 bindings,
                 Staging {
-                    kind: 0,
+                    change: Change::Insert,
                     table,
                     vals,
                 },
@@ -169,7 +149,7 @@ fn act(
                 words,
                 bindings,
                 Staging {
-                    kind: 0,
+                    change: Change::Insert,
                     table,
                     vals,
                 },
@@ -184,7 +164,7 @@ fn act(
                 words,
                 bindings,
                 Staging {
-                    kind: 1,
+                    change: Change::Remove,
                     table,
                     vals: args,
                 },
@@ -243,20 +223,22 @@ fn act(
         Instr::ReadCounter { counter, .. } => {
             // Dead lanes too have the counter's next in dst.
             let every = Mask::new(256);
-            read_counter(words, committed, bindings, counter, every, state, out);
+            let next = state.read_counter(counter);
+            lanes::fill(words, committed, bindings, Ask::Const(next), every, out);
             Acted { mask, state }
         }
     }
 }
 
-// dst takes the first `lanes` words of `out`.
-fn bind_column(dst: Dst, lanes: usize, out: &[u32], bindings: &mut [u32])
+// dst takes the lanes' words of `out`, and is bound.
+fn bind_dst(kept: Bindings, dst: Dst, out: &[u32], bindings: &mut [u32]) -> Bindings
     requires { ⌜ IsVariable (variableOf dst) × (length (now bindings) ≡ 8192) ⌝ }
-    ensures { λ _. ⌜ now (bindings .exit) ≡ boundTo (variableOf dst) lanes (now (out .entry)) (now (bindings .entry)) ⌝ }
+    ensures kept { λ r. ⌜ r ≡ boundIn (variableOf dst) kept ⌝ }
+    ensures columns { λ _. ⌜ now (bindings .exit) ≡ boundTo (variableOf dst) (kept .matches) (now (out .entry)) (now (bindings .entry)) ⌝ }
 {
     match dst {
-        Dst::Var(v) => bindings::bind(bindings, v, out, lanes),
-        Dst::Nothing => {}
+        Dst::Var(v) => kept.insert(v, out, bindings),
+        Dst::Nothing => kept,
     }
 }
 
@@ -274,9 +256,7 @@ fn run_instr(
     ensures is { λ r. ⌜ _≡_ {A = Running} (record { batch = r; bindings = now (bindings .exit); log = now (log .exit); index = now (index .exit) }) (ranInstr (now (words .entry)) i (record { batch = batch; bindings = now (bindings .entry); log = now (log .entry); index = now (index .entry) })) ⌝ }
     ensures fits { λ r. ⌜ r .state .used ≤ length (now (log .entry)) ⌝ }
 {
-    let lanes = batch.lanes;
     let mask = batch.mask;
-    let bound = batch.bound;
     let state = batch.state;
     let mut out = [4294967295u32; 256];
     let acted = act(
@@ -292,12 +272,10 @@ fn run_instr(
     );
     let left = acted.mask;
     let after = acted.state;
-    let dst = i.dst();
-    bind_column(dst, lanes, &out, bindings);
+    let kept = bind_dst(batch.bindings, i.dst(), &out, bindings);
     Batch {
-        lanes,
+        bindings: kept,
         mask: left,
-        bound: bound.bind_dst(dst),
         state: after,
     }
 }

@@ -9,6 +9,7 @@ ghost use Rattle.model.specs.Answer as model;
 ghost use Rattle.answer.specs.Runs.{runs};
 ghost use Rattle.answer.specs.Steps.{placed, columnWords, batchWords, predictionWords};
 use crate::put;
+use bindings::Bindings;
 use bound::Bound;
 use ids::Variable;
 use mask::Mask;
@@ -106,16 +107,17 @@ fn write_live(mask: Mask, lanes: usize, at: usize, answer: &mut [u32])
 // How many lanes survive and how many there are, the bound variables with their columns, and which lanes are live.
 pub fn write_batch(
     bindings: &[u32],
-    bound: Bound,
+    kept: Bindings,
     mask: Mask,
-    lanes: usize,
     at: usize,
     answer: &mut [u32],
 ) -> usize
-    requires { ⌜ (length (now bindings) ≡ 8192) × (lanes ≤ 256) × (at ≤ 2 ^ 32) ⌝ }
-    ensures words { λ _. ⌜ now (answer .exit) ≡ placed (batchWords lanes (bound .known) (now (bindings .entry)) (mask .live)) at (now (answer .entry)) ⌝ }
-    ensures end { λ r. ⌜ r ≡ at + length (batchWords lanes (bound .known) (now (bindings .entry)) (mask .live)) ⌝ }
+    requires { ⌜ (length (now bindings) ≡ 8192) × (kept .matches ≤ 256) × (at ≤ 2 ^ 32) ⌝ }
+    ensures words { λ _. ⌜ now (answer .exit) ≡ placed (batchWords (kept .matches) (kept .bound .known) (now (bindings .entry)) (mask .live)) at (now (answer .entry)) ⌝ }
+    ensures end { λ r. ⌜ r ≡ at + length (batchWords (kept .matches) (kept .bound .known) (now (bindings .entry)) (mask .live)) ⌝ }
 {
+    let bound = kept.bound;
+    let lanes = kept.matches;
     let n = bound_count(bound);
     let end = at + 3 + n * (1 + lanes) + lanes;
     if answer.len() < end {

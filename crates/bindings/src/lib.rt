@@ -1,10 +1,13 @@
-// The bindings of a batch: 32 columns of 256 lent words, variable v in lane i at 256 * v + i.
+// The bindings of a batch: 32 columns of 256 lent words, variable v in lane i at 256 * v + i; and what is kept beside them.
 use args::Args;
+use bound::Bound;
 use ids::Lane;
 use ids::Variable;
 ghost use mathlib.Core.Path.{_≡_};
+ghost use mathlib.Core.Option.{some};
 ghost use Prim.Native.Nat.{_+_, _*_, _^_, _≤_, _<_};
 ghost use lib.ListN.{length, getD, take};
+ghost use Rattle.bindings.specs.Bindings.{boundIn};
 ghost use Rattle.bindings.specs.Columns.{valueAt, fetched, bound, loaded};
 
 // The word behind p, or 0 past the end.
@@ -66,7 +69,7 @@ fn in_lane(column: &[u32], lanes: usize, lane: Lane) -> u32
 }
 
 // The first `lanes` words of `column` become the column of dst, and zero the rest of it.
-pub fn bind(bindings: &mut [u32], dst: Variable, column: &[u32], lanes: usize)
+fn bind(bindings: &mut [u32], dst: Variable, column: &[u32], lanes: usize)
     requires { ⌜ 256 * dst .0 + 256 ≤ length (now bindings) ⌝ }
     ensures { λ _. ⌜ now (bindings .exit) ≡ bound (dst .0) (take lanes (now (column .entry))) (now (bindings .entry)) ⌝ }
 {
@@ -89,5 +92,27 @@ pub fn load(words: &[u32], at: usize, v: u32, lanes: usize, bindings: &mut [u32]
         bind(bindings, Variable(c), &words[p..], lanes);
         p += lanes;
         c += 1;
+    }
+}
+
+// What is kept beside the lent words: how many lanes there are, and which variables are bound.
+pub struct Bindings {
+    pub matches: usize,
+    pub bound: Bound,
+}
+
+impl Bindings {
+    // The lanes' words of `column` become the column of a variable, which is bound then.
+    pub fn insert(self, var: Variable, column: &[u32], columns: &mut [u32]) -> Self
+        requires { ⌜ (var .0 < 32) × (length (now columns) ≡ 8192) ⌝ }
+        ensures kept { λ r. ⌜ r ≡ boundIn (some (var .0)) self ⌝ }
+        ensures columns { λ _. ⌜ now (columns .exit) ≡ bound (var .0) (take (self .matches) (now (column .entry))) (now (columns .entry)) ⌝ }
+    {
+        bind(columns, var, column, self.matches);
+        let known = self.bound;
+        Bindings {
+            matches: self.matches,
+            bound: known.bind(var),
+        }
     }
 }

@@ -32,7 +32,7 @@ fn append(b: Building, counters: Counters, x: u32) -> Building
 }
 
 // With a counter's next number, unless it is spent.
-fn hand_out(mut b: Building, c: CounterId) -> Building
+fn inc_counter(mut b: Building, c: CounterId) -> Building
     ensures { λ r. ⌜ r ≡ handed (c .0) b ⌝ }
 {
     let counters = b.counters;
@@ -60,7 +60,7 @@ fn write(bindings: &[u32], lane: Lane, v: WriteVal, b: Building) -> Building
 {
     match v {
         WriteVal::QueryEntry(e) => append(b, b.counters, lanes::value(bindings, e, lane)),
-        WriteVal::IncCounter(c) => hand_out(b, c),
+        WriteVal::IncCounter(c) => inc_counter(b, c),
         WriteVal::CurrentVal(x) => append(b, b.counters, current(b.row, x)),
     }
 }

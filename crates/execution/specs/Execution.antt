@@ -10,6 +10,8 @@ use Rattle.log.specs.declared.Appended.the-variants.{Used, Full as NoRoom}
 use Rattle.log.specs.Log.{recordOf, appended, stored}
 use Rattle.execution.specs.declared.Stop.{Stop}
 use Rattle.execution.specs.declared.Stop.the-variants.{Going, Spent, Full}
+use Rattle.execution.specs.declared.Change.{Change}
+use Rattle.execution.specs.declared.Change.the-variants.{Insert, Remove}
 use Rattle.execution.specs.declared.ExecutionState.{ExecutionState}
 
 abbrev pub goesOn : Stop → Bool
@@ -40,10 +42,19 @@ afterAppend NoRoom s = stopped Full s
 unfoldable pub staged : (kind table : ℕ) → List ℕ → ℕ → Logged → Logged
 staged kind table row n l = record { state = afterAppend (appended (l .log) (l .state .used) (recordOf kind table row n)) (l .state); log = stored (l .log) (l .state .used) (recordOf kind table row n) }
 
+-- the kind of its record
+abbrev pub recordKind : Change → ℕ
+recordKind Insert = 0
+recordKind Remove = 1
+
+-- it sets the changed flag
+abbrev pub stagedChange : Change → (table : ℕ) → List ℕ → ℕ → Logged → Logged
+stagedChange change table row n l = let t = staged (recordKind change) table row n l in record { state = changing (t .state); log = t .log }
+
 -- by a lane, if it is live and the run goes on
-unfoldable pub stagedLane : (kind table : ℕ) → Args → Bool → Logged → Logged
-stagedLane kind table row live l = when (live && isGoing (l .state)) (λ l′. let t = staged kind table (row .vals) (row .count) l′ in record { state = changing (t .state); log = t .log }) l
+unfoldable pub stagedLane : Change → (table : ℕ) → Args → Bool → Logged → Logged
+stagedLane change table row live l = when (live && isGoing (l .state)) (stagedChange change table (row .vals) (row .count)) l
 
 -- by all lanes
-unfoldable pub stagedLanes : (kind table : ℕ) → (ℕ → Args) → List Bool → Logged → Logged
-stagedLanes kind table rows live l = iter (λ i. stagedLane kind table (rows i) (getD live i false)) 256 l
+unfoldable pub stagedLanes : Change → (table : ℕ) → (ℕ → Args) → List Bool → Logged → Logged
+stagedLanes change table rows live l = iter (λ i. stagedLane change table (rows i) (getD live i false)) 256 l

@@ -1,5 +1,6 @@
 // What a run changes: the log, the counters, the changed flag and the index of predicted rows; and why it ended early.
 use counter::Counters;
+use ids::CounterId;
 use ids::Lane;
 use ids::TableId;
 use instr::Entries;
@@ -7,10 +8,11 @@ use log::Appended;
 use mask::Mask;
 ghost use mathlib.Core.Path.{_≡_};
 ghost use Prim.Native.Nat.{_≤_};
-ghost use lib.ListN.{length};
+ghost use lib.ListN.{length, getD};
 ghost use Rattle.instr.specs.Stands.{Short};
 ghost use Rattle.lanes.specs.Lanes.{listed};
-ghost use Rattle.execution.specs.Execution.{isGoing, stopped, Logged, staged, stagedLane, stagedLanes};
+ghost use Rattle.execution.specs.Execution.{isGoing, stopped, changing, Logged, staged, stagedChange, stagedLane, stagedLanes};
+ghost use Rattle.execution.specs.declared.Change.the-variants.{Insert, Remove};
 
 // A run goes on; or a counter would have passed its limit (refusal 13), or a record the end of the log (refusal 12).
 pub enum Stop {
@@ -27,9 +29,15 @@ pub struct ExecutionState {
     pub stop: Stop,
 }
 
-// Which record a lane stages: an insert (kind 0) or a removal (kind 1) of what a list of entries stands for.
+// What a lane can stage.
+pub enum Change {
+    Insert,
+    Remove,
+}
+
+// Which record it stages: an insert or a removal of what a list of entries stands for.
 pub struct Staging {
-    pub kind: u32,
+    pub change: Change,
     pub table: TableId,
     pub vals: Entries,
 }
@@ -57,9 +65,57 @@ impl ExecutionState {
             stop: why,
         }
     }
+
+    // A counter's next number.
+    pub fn read_counter(self, c: CounterId) -> u32
+        ensures { λ r. ⌜ r ≡ getD (self .counters .next) (c .0) 0 ⌝ }
+    {
+        let counters = self.counters;
+        counters.read(c)
+    }
+
+    // Something was staged.
+    fn set_changed(mut self) -> Self
+        ensures { λ r. ⌜ r ≡ changing self ⌝ }
+    {
+        self.changed = true;
+        self
+    }
+
+    // An insert of the first `count` words of a row.
+    pub fn stage_insert(
+        self,
+        table: TableId,
+        row: &[u32; 16],
+        count: usize,
+        log: &mut [u32],
+    ) -> Self
+        requires { ⌜ (self .used ≤ length (now log)) × (count ≤ 16) ⌝ }
+        ensures is { λ r. ⌜ _≡_ {A = Logged} (record { state = r; log = now (log .exit) }) (stagedChange Insert (table .0) (now (row .entry)) count (record { state = self; log = now (log .entry) })) ⌝ }
+        ensures fits { λ r. ⌜ r .used ≤ length (now (log .entry)) ⌝ }
+    {
+        let t = stage(self, 0, table, row, count, log);
+        t.set_changed()
+    }
+
+    // A removal of the key that the first `count` words of a row are.
+    pub fn stage_remove(
+        self,
+        table: TableId,
+        row: &[u32; 16],
+        count: usize,
+        log: &mut [u32],
+    ) -> Self
+        requires { ⌜ (self .used ≤ length (now log)) × (count ≤ 16) ⌝ }
+        ensures is { λ r. ⌜ _≡_ {A = Logged} (record { state = r; log = now (log .exit) }) (stagedChange Remove (table .0) (now (row .entry)) count (record { state = self; log = now (log .entry) })) ⌝ }
+        ensures fits { λ r. ⌜ r .used ≤ length (now (log .entry)) ⌝ }
+    {
+        let t = stage(self, 1, table, row, count, log);
+        t.set_changed()
+    }
 }
 
-// A record of the first `count` words of a row.
+// A record of the first `count` words of a row: an insert is of kind 0, a removal of kind 1, a predicted row of kind 2.
 pub fn stage(
     mut s: ExecutionState,
     kind: u32,
@@ -82,7 +138,7 @@ pub fn stage(
     }
 }
 
-// What a lane stages sets the changed flag.
+// What a lane stages, if it is live and the run goes on.
 fn stage_lane(
     words: &[u32],
     bindings: &[u32],
@@ -93,15 +149,17 @@ fn stage_lane(
     log: &mut [u32],
 ) -> ExecutionState
     requires { ⌜ Short (what .vals) × (s .used ≤ length (now log)) ⌝ }
-    ensures is { λ r. ⌜ _≡_ {A = Logged} (record { state = r; log = now (log .exit) }) (stagedLane (what .kind) (what .table .0) (listed (now (words .entry)) (now (bindings .entry)) (lane .0) (what .vals)) live (record { state = s; log = now (log .entry) })) ⌝ }
+    ensures is { λ r. ⌜ _≡_ {A = Logged} (record { state = r; log = now (log .exit) }) (stagedLane (what .change) (what .table .0) (listed (now (words .entry)) (now (bindings .entry)) (lane .0) (what .vals)) live (record { state = s; log = now (log .entry) })) ⌝ }
     ensures fits { λ r. ⌜ r .used ≤ length (now (log .entry)) ⌝ }
 {
     if live & s.going() {
         let row = lanes::fetch(words, bindings, what.vals, lane);
         let vals = row.vals;
-        let mut t = stage(s, what.kind, what.table, &vals, row.count, log);
-        t.changed = true;
-        return t;
+        let change = what.change;
+        return match change {
+            Change::Insert => s.stage_insert(what.table, &vals, row.count, log),
+            Change::Remove => s.stage_remove(what.table, &vals, row.count, log),
+        };
     }
     s
 }
@@ -116,7 +174,7 @@ pub fn stage_lanes(
     log: &mut [u32],
 ) -> ExecutionState
     requires { ⌜ Short (what .vals) × (start .used ≤ length (now log)) ⌝ }
-    ensures is { λ r. ⌜ _≡_ {A = Logged} (record { state = r; log = now (log .exit) }) (stagedLanes (what .kind) (what .table .0) (λ i. listed (now (words .entry)) (now (bindings .entry)) i (what .vals)) (mask .live) (record { state = start; log = now (log .entry) })) ⌝ }
+    ensures is { λ r. ⌜ _≡_ {A = Logged} (record { state = r; log = now (log .exit) }) (stagedLanes (what .change) (what .table .0) (λ i. listed (now (words .entry)) (now (bindings .entry)) i (what .vals)) (mask .live) (record { state = start; log = now (log .entry) })) ⌝ }
     ensures fits { λ r. ⌜ r .used ≤ length (now (log .entry)) ⌝ }
 {
     let n = mask.end();

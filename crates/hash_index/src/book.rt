@@ -6,15 +6,15 @@ ghost use Rattle.tables.specs.Tables.{infoOf, Stands};
 ghost use Rattle.hash_index.specs.Book.{rowsBefore, bookIndexed};
 use ids::TableId;
 
-// How many rows the tables before a table have: the number of its first row.
-pub fn rows_before(words: &[u32], table: TableId) -> usize
-    ensures { λ r. ⌜ r ≡ rowsBefore (now (words .entry)) (table .0) ⌝ }
+// How many rows the first n tables have: the number of the first row of the next.
+pub fn rows_before(words: &[u32], n: usize) -> usize
+    requires { ⌜ n ≤ 4294967296 ⌝ }
+    ensures { λ r. ⌜ r ≡ rowsBefore (now (words .entry)) n ⌝ }
 {
-    let n = table.0;
     let mut rows = 0;
     let mut t = 0;
     while t < n {
-        rows += tables::rows_of(words, TableId(t));
+        rows += tables::rows_of(words, TableId(t as u32));
         t += 1;
     }
     rows

@@ -82,30 +82,35 @@ fn insert(
     stop(t, why)
 }
 
-// The predicted row of the key, else a new one.
-fn get_or_insert(
-    words: &[u32],
-    bindings: &[u32],
-    lane: Lane,
-    row: Row,
-    key: Args,
-    s: ExecutionState,
-    log: &mut [u32],
-    index: &mut [u32],
-) -> Got
-    requires { ⌜ Short (row .vals) × (row .of .info .keys ≤ 16) × (key .count ≤ 16) × Ready s (now log) (now index) ⌝ }
-    ensures is { λ r. ⌜ _≡_ {A = Gotten} (record { got = r; log = now (log .exit); index = now (index .exit) }) (gotten (now (words .entry)) (now (bindings .entry)) (lane .0) row key (record { state = s; log = now (log .entry); index = now (index .entry) })) ⌝ }
-    ensures fits { λ r. ⌜ r .state .used ≤ length (now (log .entry)) ⌝ }
-{
-    let vals = key.vals;
-    match predicted::get(index, log, row.of.table, &vals, row.of.info.keys) {
-        Slot::Hit(_) => Got {
-            made: false,
-            state: s,
-        },
-        Slot::Free(slot) => insert(words, bindings, lane, row, key, slot, s, log, index),
-        // never so: a log has room for 5461 rows at most
-        Slot::Full => stop(s, Stop::Full),
+// The predicted rows. What it would hold is lent: the rows' words stand in the log, and their places in the index.
+pub struct PredictedVals;
+
+impl PredictedVals {
+    // The predicted row of the key, else a new one, built by the write values.
+    pub fn get_or_insert_with(
+        words: &[u32],
+        bindings: &[u32],
+        lane: Lane,
+        row: Row,
+        key: Args,
+        s: ExecutionState,
+        log: &mut [u32],
+        index: &mut [u32],
+    ) -> Got
+        requires { ⌜ Short (row .vals) × (row .of .info .keys ≤ 16) × (key .count ≤ 16) × Ready s (now log) (now index) ⌝ }
+        ensures is { λ r. ⌜ _≡_ {A = Gotten} (record { got = r; log = now (log .exit); index = now (index .exit) }) (gotten (now (words .entry)) (now (bindings .entry)) (lane .0) row key (record { state = s; log = now (log .entry); index = now (index .entry) })) ⌝ }
+        ensures fits { λ r. ⌜ r .state .used ≤ length (now (log .entry)) ⌝ }
+    {
+        let vals = key.vals;
+        match predicted::get(index, log, row.of.table, &vals, row.of.info.keys) {
+            Slot::Hit(_) => Got {
+                made: false,
+                state: s,
+            },
+            Slot::Free(slot) => insert(words, bindings, lane, row, key, slot, s, log, index),
+            // never so: a log has room for 5461 rows at most
+            Slot::Full => stop(s, Stop::Full),
+        }
     }
 }
 
@@ -151,7 +156,16 @@ fn serve_lane(
 {
     if live & s.going() {
         let key = lanes::fetch(words, bindings, ask.key, lane);
-        let got = get_or_insert(words, bindings, lane, ask.row, key, s, log, index);
+        let got = PredictedVals::get_or_insert_with(
+            words,
+            bindings,
+            lane,
+            ask.row,
+            key,
+            s,
+            log,
+            index,
+        );
         let t = got.state;
         take(words, committed, ask, key, lane, t.going(), log, index, out);
         return t;
@@ -230,7 +244,16 @@ pub fn predict_val(
             state: s,
         },
         Found::Nothing => {
-            note_change(get_or_insert(words, bindings, Lane(0), row, key, s, log, index))
+            note_change(PredictedVals::get_or_insert_with(
+                words,
+                bindings,
+                Lane(0),
+                row,
+                key,
+                s,
+                log,
+                index,
+            ))
         }
     }
 }

@@ -1,4 +1,4 @@
-// PredictedVals: an index of 8192 words over the predicted rows of the log, by table and key.
+// What PredictedVals is made of: an index of 8192 words over the predicted rows of the log, by table and key.
 // A slot is 0 where it is free, else the place of a record in the log plus 1. A row stands at the first slot, from its key's home on, that was free when it came.
 mod row;
 
@@ -40,7 +40,7 @@ fn next(s: usize) -> usize
 }
 
 // Whether v, a place plus 1, stands for a record of this table whose words begin with the key.
-fn stands(log: &[u32], table: ids::TableId, key: &[u32; 16], k: usize, v: usize) -> bool
+fn matches(log: &[u32], table: ids::TableId, key: &[u32; 16], k: usize, v: usize) -> bool
     requires { ⌜ (k ≤ 16) × (v < 4294967296) ⌝ }
     ensures { λ r. ⌜ r ≡ answers (now (log .entry)) (table .0) (now (key .entry)) k v ⌝ }
 {
@@ -72,7 +72,7 @@ fn probe(
         if v == 0 {
             return Slot::Free(s);
         }
-        if stands(log, table, key, k, v) {
+        if matches(log, table, key, k, v) {
             return Slot::Hit(v - 1);
         }
         s = next(s);

@@ -41,7 +41,7 @@ abbrev pub told : ExecutionState → List ℕ → Progress → Progress
 told x l p = advanced x (p .at + length l) p
 
 abbrev pub bodyOf : Running → List ℕ
-bodyOf r = batchWords (r .batch .lanes) (r .batch .bound .known) (r .bindings) (r .batch .mask .live)
+bodyOf r = batchWords (r .batch .bindings .matches) (r .batch .bindings .bound .known) (r .bindings) (r .batch .mask .live)
 
 abbrev pub batchTold : Running → Ran → Ran
 batchTold r a = cond (isGoing (r .batch .state))

@@ -31,23 +31,23 @@ use Rattle.run.specs.Progress.{Ran, halted, told, bodyOf, batchTold, row
 
 module _ (w : List ℕ) where
   -- an instruction keeps the number of lanes
-  next-lanes : (p : ℕ) (r : Running) → action.ranNext w p r .batch .lanes ≡ r .batch .lanes
+  next-lanes : (p : ℕ) (r : Running) → action.ranNext w p r .batch .bindings .matches ≡ r .batch .bindings .matches
   unfolding action.ranNext ranInstr
-  next-lanes p r = when-ind (λ (x : Running). x .batch .lanes ≡ r .batch .lanes) (isGoing (r .batch .state) && anyLive (r .batch .mask .live)) (ranInstr w (instrAt w p)) r (λ _. refl) refl
+  next-lanes p r = when-ind (λ (x : Running). x .batch .bindings .matches ≡ r .batch .bindings .matches) (isGoing (r .batch .state) && anyLive (r .batch .mask .live)) (ranInstr w (instrAt w p)) r (λ _. refl) refl
 
   -- and so do the instructions of a rule
-  pub instrs-lanes : (at n : ℕ) (r : Running) → ranInstrs w at n r .batch .lanes ≡ r .batch .lanes
+  pub instrs-lanes : (at n : ℕ) (r : Running) → ranInstrs w at n r .batch .bindings .matches ≡ r .batch .bindings .matches
   unfolding ranInstrs
-  instrs-lanes at n r = iter-keeps (λ (x : Running). x .batch .lanes ≡ r .batch .lanes) (λ j. action.ranNext w (instrPlace w at j)) n r refl (λ i a l e. next-lanes (instrPlace w at i) a ∙ e)
+  instrs-lanes at n r = iter-keeps (λ (x : Running). x .batch .bindings .matches ≡ r .batch .bindings .matches) (λ j. action.ranNext w (instrPlace w at j)) n r refl (λ i a l e. next-lanes (instrPlace w at i) a ∙ e)
 
   -- a batch ends with the lanes that its body says
-  pub batch-lanes : (at : ℕ) (x : ExecutionState) (log index : List ℕ) → ranBatch w at x log index .batch .lanes ≡ laneCount (getD w (at + 2) 0) (getD w (at + 1) 0)
+  pub batch-lanes : (at : ℕ) (x : ExecutionState) (log index : List ℕ) → ranBatch w at x log index .batch .bindings .matches ≡ laneCount (getD w (at + 2) 0) (getD w (at + 1) 0)
   unfolding ranBatch
   batch-lanes at x log index = instrs-lanes (ruleOf w at) (getD w (ruleOf w at + 1) 0) (startBatch w at x log index)
 
 module _ {w : List ℕ} (h : Readable w) {i : ℕ} (s : IsStep w i) where
   -- a batch of the book has at most 256 lanes when it ends
-  pub lanes-most : kindOf w i ≡ 4 → (x : ExecutionState) (log index : List ℕ) → ranBatch w (firstOf w i) x log index .batch .lanes ≤ 256
+  pub lanes-most : kindOf w i ≡ 4 → (x : ExecutionState) (log index : List ℕ) → ranBatch w (firstOf w i) x log index .batch .bindings .matches ≤ 256
   lanes-most k x log index =
       omega (arith, batch-lanes w (firstOf w i) x log index, lane-count-most (getD w (firstOf w i + 2) 0) (getD w (firstOf w i + 1) 0) (batch-facts h s k .lanes))
 

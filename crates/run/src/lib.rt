@@ -1,6 +1,5 @@
 // The steps of a book, one after the other. Each step's body goes to the front of the answer's words, past those of the steps before it.
 use execution::ExecutionState;
-use ids::TableId;
 ghost use mathlib.Core.Path.{_≡_};
 ghost use Prim.Native.Nat.{_+_, _-_, _≤_, _<_};
 ghost use lib.ListN.{length};
@@ -69,9 +68,7 @@ fn batch_step(
     let batch = steps::run_batch(words, committed, base, i, before, bindings, log, index);
     let state = batch.state;
     if state.going() {
-        let bound = batch.bound;
-        let mask = batch.mask;
-        let end = answer::steps::write_batch(bindings, bound, mask, batch.lanes, p.at, answer);
+        let end = answer::steps::write_batch(bindings, batch.bindings, batch.mask, p.at, answer);
         return advance(p, state, end);
     }
     halt(p, state)
@@ -216,7 +213,7 @@ pub fn run_steps(
     ensures is { λ r. ⌜ _≡_ {A = Ran} (record { progress = r; bindings = now (bindings .exit); log = now (log .exit); index = now (index .exit); answer = now (answer .exit) }) (ranSteps (now (words .entry)) steps (record { progress = start; bindings = now (bindings .entry); log = now (log .entry); index = now (index .entry); answer = now (answer .entry) })) ⌝ }
     ensures fits { λ r. ⌜ (r .state .used ≤ length (now (log .entry))) × (r .done ≤ 64) × (r .at ≤ 1048576) ⌝ }
 {
-    if hash_index::serves(hash_index::rows_before(words, TableId(tables as u32))) {
+    if hash_index::serves(hash_index::rows_before(words, tables)) {
         return run_indexed(
             words,
             tables,

@@ -1,25 +1,24 @@
 -- A batch: its instructions in the code and in the machine, from its start to its end.
-use Prim.Native.Nat.{ℕ, zero, suc, _+_, _<_, _≤_}
+use Prim.Native.Nat.{ℕ, zero, suc, _<_, _≤_}
 use mathlib.Core.Path.{_≡_, refl, sym, ap, _∙_, subst}
 use mathlib.Core.Bool.{Bool, true, false, _&&_, _||_, or-false}
 use mathlib.Core.Option.{Option, none, some}
 use mathlib.Core.List.{List, [], _∷_, map}
 use native.Mathlib.Omega.{arith}
-use lib.Dec.{eqb, leb}
-use lib.ListN.{length, getD, getElem?, take, replicate}
-use Rattle.model.specs.Basics.{iter, when, found, only}
+use lib.Dec.{eqb}
+use lib.ListN.{length, getElem?, take, replicate}
+use Rattle.model.specs.Basics.{when, found, only}
 use Rattle.model.specs.Book.Syntax.{dstOf, stale}
 use Rattle.model.specs.Book.Syntax as syntax
 use Rattle.model.specs.Book.Decode as decode
-use Rattle.model.specs.Machine.State.{State, Status, Answer, going, stuck, isGoing, mask, note, frame}
+use Rattle.model.specs.Machine.State.{State, Answer, going, isGoing, mask, note}
 use Rattle.model.specs.Machine.Values.{bind}
 use Rattle.model.specs.Machine.Steps.{orStale, clear, bindOut, anyLive, finish, body, instruction, instructions}
-use Rattle.model.specs.Laws.Logic.{some-inj, none-some}
+use Rattle.model.specs.Laws.Logic.{some-inj}
 use Rattle.model.specs.Laws.Turns.{when-T, when-F}
 use Rattle.mask.specs.Masks.{padded}
 use Rattle.mask.specs.MaskLaws.{any-padded}
-use Rattle.bound.specs.declared.Bound.{Bound}
-use Rattle.bound.specs.Bound.{has, binding}
+use Rattle.bound.specs.Bound.{has}
 use Rattle.bound.specs.BoundLaws.{length-binding, has-binding}
 use Rattle.bindings.specs.Columns.{columnsOf, bound}
 use Rattle.bindings.specs.BindingLaws.{bind-is}
@@ -30,13 +29,12 @@ use Rattle.instr.specs.InstrLaws.{instr-at}
 use Rattle.instr.specs.Meaning.{instrOf}
 use Rattle.instr.specs.Stands.{bindsOf, IsVariable}
 use Rattle.instr.specs.StandsLaws.{binds}
-use Rattle.execution.specs.declared.Stop.{Stop}
 use Rattle.execution.specs.declared.Stop.the-variants.{Going}
 use Rattle.execution.specs.Execution.{goesOn, isGoing as codeGoes}
 use Rattle.action.specs.Act.{Lanes, acted}
 use Rattle.action.specs.Run.{Running, begun, finished, ranInstr, ranNext, ranInstrs}
-use Rattle.simulation.specs.Represents.{machine, LogIs, statusOf, Follows, sticks, stops, goes, not-going}
-use Rattle.simulation.specs.Passes.{noWords, Start, start-clear}
+use Rattle.simulation.specs.Represents.{machine, LogIs, Follows, sticks, stops, goes, not-going}
+use Rattle.simulation.specs.Passes.{start-clear}
 use Rattle.simulation.specs.Fits.{Fits}
 use Rattle.simulation.specs.Bodies.{LanesAre, begins, body-follows}
 
@@ -46,12 +44,12 @@ isBound o = found o (λ _. true) (λ _. false)
 -- a batch that goes on, in the machine and in the code; `answers` are those of the steps before it
 pub record BatchIs (w : List ℕ) (L : ℕ) (answers : List Answer) (s : State) (r : Running) : Type 0 where
   pub is : LogIs w L (s .log) (s .counters) (s .changed) (r .batch .state) (r .log) (r .index)
-  pub lanes : r .batch .lanes ≡ length (s .live)
+  pub lanes : r .batch .bindings .matches ≡ length (s .live)
   pub few : length (s .live) ≤ 256
   pub live : r .batch .mask .live ≡ padded (s .live)
   pub bindings : r .bindings ≡ columnsOf (s .bindings)
-  pub known : length (r .batch .bound .known) ≡ 32
-  pub bound-is : (v : ℕ) → has (r .batch .bound) v ≡ isBound (s .bindings v)
+  pub known : length (r .batch .bindings .bound .known) ≡ 32
+  pub bound-is : (v : ℕ) → has (r .batch .bindings .bound) v ≡ isBound (s .bindings v)
   pub columns : (v : ℕ) (c : List ℕ) → s .bindings v ≡ some c → length c ≡ length (s .live)
   pub answered : s .answers ≡ answers
 
@@ -95,14 +93,14 @@ module _ (w : List ℕ) (L : ℕ) (short : L ≤ 16384) (answers : List Answer) 
       lanes = b .lanes ∙ sym (h .lanes-size);
       few = omega (arith, h .lanes-size, b .few);
       live = h .live;
-      bindings = ap (λ (m : List ℕ). bound d (take (r .batch .lanes) (l .out)) m) (b .bindings) ∙ ap (λ (c : List ℕ). bound d c (columnsOf (s .bindings))) column ∙ bind-is (s .bindings) d (map orStale (s₂ .out)) v ∙ ap (λ f. columnsOf (bind d (map orStale (s₂ .out)) f)) (sym (h .bindings));
-      known = length-binding (some d) (r .batch .bound) (b .known);
-      bound-is = λ u. has-binding (some d) (r .batch .bound) v (b .known) u ∙ ap (λ (q : Bool). q || eqb u d) (b .bound-is u) ∙ by u (eqb u d) ∙ ap (λ f. isBound (bind d (map orStale (s₂ .out)) f u)) (sym (h .bindings));
+      bindings = ap (λ (m : List ℕ). bound d (take (r .batch .bindings .matches) (l .out)) m) (b .bindings) ∙ ap (λ (c : List ℕ). bound d c (columnsOf (s .bindings))) column ∙ bind-is (s .bindings) d (map orStale (s₂ .out)) v ∙ ap (λ f. columnsOf (bind d (map orStale (s₂ .out)) f)) (sym (h .bindings));
+      known = length-binding (some d) (r .batch .bindings .bound) (b .known);
+      bound-is = λ u. has-binding (some d) (r .batch .bindings .bound) v (b .known) u ∙ ap (λ (q : Bool). q || eqb u d) (b .bound-is u) ∙ by u (eqb u d) ∙ ap (λ f. isBound (bind d (map orStale (s₂ .out)) f u)) (sym (h .bindings));
       columns = λ u c e. sized u c (eqb u d) refl e;
       answered = h .answers ∙ b .answered;
     }
       where
-        column : take (r .batch .lanes) (l .out) ≡ map orStale (s₂ .out)
+        column : take (r .batch .bindings .matches) (l .out) ≡ map orStale (s₂ .out)
         column = ap (λ (n : ℕ). take n (l .out)) (b .lanes) ∙ sym (h .out)
 
         by : (u : ℕ) (q : Bool) → isBound (s .bindings u) || q ≡ isBound (found (only q (some (map orStale (s₂ .out)))) some (λ _. s .bindings u))

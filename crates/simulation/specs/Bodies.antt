@@ -33,6 +33,7 @@ use Rattle.instr.specs.Meaning.{entriesOf, writesOf, instrOf}
 use Rattle.lanes.specs.declared.Ask.the-variants.{Const as AskConst}
 use Rattle.lanes.specs.LaneLaws.{asked-entry}
 use Rattle.lanes.specs.Lanes.{entryAsk, asked, isSome, orElse, answeredLanes, answeredWords}
+use Rattle.execution.specs.declared.Change.the-variants as change
 use Rattle.execution.specs.declared.Stop.the-variants.{Going}
 use Rattle.execution.specs.declared.ExecutionState.{ExecutionState}
 use Rattle.execution.specs.Execution.{Logged}
@@ -121,7 +122,7 @@ module _ (w : List ℕ) (L : ℕ) (s : State) (start : Start s) (x : ExecutionSt
   })) e
 
   -- a pass that stages
-  module _ (kind t : ℕ) (c : Logged) (s′ : State) (kept : Kept s s′) where
+  module _ (c : Logged) (s′ : State) (kept : Kept s s′) where
     log-only : LogIs w L (s′ .log) (s′ .counters) (s′ .changed) (c .state) (c .log) index → LanesAre w L s s′ (withLog c begins)
     log-only q = record {
       bindings = kept .bindings;
@@ -191,23 +192,20 @@ module _ (w : List ℕ) (L : ℕ) (s : State) (start : Start s) (x : ExecutionSt
 
     -- ## Staged
 
-    not-2 : (kind : ℕ) → kind < 2 → kind ≡ 2 → ⊥
-    not-2 kind h e = omega arith
-
     ins-5 : (table : TableId) (vals : Entries) → Fits w (Insert table vals) → Lanewise (Insert table vals)
     unfolding acted body instrOf
-    ins-5 table vals f = follows-map (λ (q : Staged w L index s 0 (table .0) (width (tableOf (machine w L) (table .0))) (f .0 .known) (not-2 0 (omega arith)) refl vals (f .1 .0 .1) (f .1 .1) _ _). log-only 0 (table .0) _ _ (q .kept) (q .is))
-        (list-pass w L index s 0 (table .0) (width (tableOf (machine w L) (table .0))) (f .0 .known) (not-2 0 (omega arith)) refl vals (f .1 .0 .1) (f .1 .1) k j (start .few) (record { state = x; log = log }) (start .status) on is)
+    ins-5 table vals f = follows-map (λ (q : Staged w L index s change.Insert (table .0) (width (tableOf (machine w L) (table .0))) (f .0 .known) refl vals (f .1 .0 .1) (f .1 .1) _ _). log-only _ _ (q .kept) (q .is))
+        (list-pass w L index s change.Insert (table .0) (width (tableOf (machine w L) (table .0))) (f .0 .known) refl vals (f .1 .0 .1) (f .1 .1) k j (start .few) (record { state = x; log = log }) (start .status) on is)
 
     ins-7 : (table : TableId) (args : Entries) → Fits w (Remove table args) → Lanewise (Remove table args)
     unfolding acted body instrOf
-    ins-7 table args f = follows-map (λ (q : Staged w L index s 1 (table .0) (tableOf (machine w L) (table .0) .keys) (f .0 .known) (not-2 1 (omega arith)) refl args (f .1 .0 .1) (f .1 .1) _ _). log-only 1 (table .0) _ _ (q .kept) (q .is))
-        (list-pass w L index s 1 (table .0) (tableOf (machine w L) (table .0) .keys) (f .0 .known) (not-2 1 (omega arith)) refl args (f .1 .0 .1) (f .1 .1) k j (start .few) (record { state = x; log = log }) (start .status) on is)
+    ins-7 table args f = follows-map (λ (q : Staged w L index s change.Remove (table .0) (tableOf (machine w L) (table .0) .keys) (f .0 .known) refl args (f .1 .0 .1) (f .1 .1) _ _). log-only _ _ (q .kept) (q .is))
+        (list-pass w L index s change.Remove (table .0) (tableOf (machine w L) (table .0) .keys) (f .0 .known) refl args (f .1 .0 .1) (f .1 .1) k j (start .few) (record { state = x; log = log }) (start .status) on is)
 
     ins-6 : (table : TableId) (a b : QueryEntry) (vals : Entries) → Fits w (InsertIfEq table a b vals) → Lanewise (InsertIfEq table a b vals)
     unfolding acted body instrOf
-    ins-6 table a b vals f = follows-map (λ (q : Staged w L index s 0 (table .0) (width (tableOf (machine w L) (table .0))) (f .0 .known) (not-2 0 (omega arith)) refl vals (f .3 .0 .1) (f .3 .1) _ _). log-only 0 (table .0) _ _ (q .kept) (q .is))
-        (if-pass w L index s 0 (table .0) (width (tableOf (machine w L) (table .0))) (f .0 .known) (not-2 0 (omega arith)) refl vals (f .3 .0 .1) (f .3 .1) a b (f .1) (f .2) k j (start .few) (record { state = x; log = log }) (start .status) on is)
+    ins-6 table a b vals f = follows-map (λ (q : Staged w L index s change.Insert (table .0) (width (tableOf (machine w L) (table .0))) (f .0 .known) refl vals (f .3 .0 .1) (f .3 .1) _ _). log-only _ _ (q .kept) (q .is))
+        (if-pass w L index s change.Insert (table .0) (width (tableOf (machine w L) (table .0))) (f .0 .known) refl vals (f .3 .0 .1) (f .3 .1) a b (f .1) (f .2) k j (start .few) (record { state = x; log = log }) (start .status) on is)
 
     -- ## A counter's next
 

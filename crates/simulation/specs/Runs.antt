@@ -157,10 +157,10 @@ module _ (w : List ℕ) (h : Readable w) (L : ℕ) (short : L ≤ 16384) (noStep
               let q = d .batch-is in
               let end : State = lastOf in
               let body : bodyOf b ≡ stepWords (survivors (end .bindings) (end .live)) =
-              ap (λ (n : ℕ). batchWords n (b .batch .bound .known) (b .bindings) (b .batch .mask .live)) (q .lanes)
-              ∙ ap (λ (m : List ℕ). batchWords (length (end .live)) (b .batch .bound .known) m (b .batch .mask .live)) (q .bindings)
-              ∙ ap (batchWords (length (end .live)) (b .batch .bound .known) (columnsOf (end .bindings))) (q .live)
-              ∙ told.batch-is (end .bindings) (end .live) (b .batch .bound .known) (q .few) (λ v _. q .bound-is v) (λ v c _ e. q .columns v c e) in
+              ap (λ (n : ℕ). batchWords n (b .batch .bindings .bound .known) (b .bindings) (b .batch .mask .live)) (q .lanes)
+              ∙ ap (λ (m : List ℕ). batchWords (length (end .live)) (b .batch .bindings .bound .known) m (b .batch .mask .live)) (q .bindings)
+              ∙ ap (batchWords (length (end .live)) (b .batch .bindings .bound .known) (columnsOf (end .bindings))) (q .live)
+              ∙ told.batch-is (end .bindings) (end .live) (b .batch .bindings .bound .known) (q .few) (λ v _. q .bound-is v) (λ v c _ e. q .columns v c e) in
               subst (λ (u : Bool). Runs w L (suc k) s₁ (cond u (record { progress = flat.told (b .batch .state) (bodyOf b) (a .progress); bindings = b .bindings; log = b .log; index = b .index; answer = placed (bodyOf b) (a .progress .at) (a .answer) }) (record { progress = halted (b .batch .state) (a .progress); bindings = b .bindings; log = b .log; index = b .index; answer = a .answer }))) (sym (ap goesOn y))
               (subst (λ (l : List ℕ). Runs w L (suc k) s₁ (record { progress = flat.told (b .batch .state) l (a .progress); bindings = b .bindings; log = b .log; index = b .index; answer = placed l (a .progress .at) (a .answer) })) (sym body)
               (going-on x y

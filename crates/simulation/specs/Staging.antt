@@ -1,18 +1,18 @@
 -- Inserts and removals: what the lanes stage in the code is what they stage in the machine.
-use Prim.Native.Nat.{ℕ, suc, _<_, _≤_}
+use Prim.Native.Nat.{ℕ, _<_, _≤_}
 use mathlib.Core.Path.{_≡_, refl, sym, ap, _∙_, subst}
 use mathlib.Core.Bool.{Bool, true, false, _&&_, cond}
-use mathlib.Core.Option.{Option, none, some}
+use mathlib.Core.Option.{some}
 use mathlib.Core.List.{List, [], _∷_, _++_}
 use native.Mathlib.Omega.{arith}
 use native.Mathlib.Decide.{decLt}
 use lib.Dec.{eqb, leb}
 use lib.ListN.{length, getD, List·getD-eq-default}
 use borrow.Author.Tests.{leb-true}
-use Rattle.model.specs.Basics.{iter, when, tab, All}
+use Rattle.model.specs.Basics.{when, All}
 use Rattle.model.specs.Book.Syntax.{Counter}
 use Rattle.model.specs.Book.Contents.{tableCount}
-use Rattle.model.specs.Machine.State.{State, Site, Record, recordSize, Status, going, stuck, full, isGoing, stop, note, reads, change, logged, need, ifRoom, logWords}
+use Rattle.model.specs.Machine.State.{State, Site, Record, recordSize, going, stop, note, reads, change, ifRoom, logWords}
 use Rattle.model.specs.Machine.Values.{valueOf, listOf}
 use Rattle.model.specs.Machine.Steps.{here, isLive, lanes, tableOf, readPair, stageList}
 use Rattle.model.specs.Answer.{recordWords}
@@ -37,10 +37,12 @@ use Rattle.instr.specs.Meaning.{entryOf, entriesOf}
 use Rattle.lanes.specs.declared.Test.the-variants.{Eq}
 use Rattle.lanes.specs.Lanes.{listed, holds, kept}
 use Rattle.commit.specs.RecordLaws.{Sized}
-use Rattle.execution.specs.declared.Stop.the-variants.{Going, Full}
+use Rattle.execution.specs.declared.Change.{Change}
+use Rattle.execution.specs.declared.Change.the-variants.{Insert, Remove}
+use Rattle.execution.specs.declared.Stop.the-variants.{Going}
 use Rattle.execution.specs.declared.ExecutionState.{ExecutionState}
-use Rattle.execution.specs.Execution.{goesOn, isGoing as codeGoes, changing, Logged, afterAppend, staged, stagedLane, stagedLanes}
-use Rattle.simulation.specs.Represents.{machine, LogIs, statusOf, Follows, sticks, stops, goes, ListIs, list-read, front-list, pass-ends}
+use Rattle.execution.specs.Execution.{goesOn, isGoing as codeGoes, changing, Logged, afterAppend, staged, recordKind, stagedLane, stagedLanes}
+use Rattle.simulation.specs.Represents.{machine, LogIs, Follows, sticks, stops, goes, ListIs, list-read, front-list, pass-ends}
 
 -- a state that has the lanes of another
 pub record Kept (s₀ s : State) : Type 0 where
@@ -52,6 +54,11 @@ pub record Kept (s₀ s : State) : Type 0 where
 -- the record's words are those that the code appends
 pub record-is : (r : Record) (a : Args) (n : ℕ) → ListIs (r .words) n a → recordOf (r .kind) (r .table) (a .vals) (a .count) ≡ recordWords r
 record-is r a n h = ap (λ (l : List ℕ). r .kind ∷ r .table ∷ l) (front-list a (r .words) n h)
+
+-- what a lane stages is no predicted row
+not-predicted : (c : Change) → recordKind c ≡ 2 → ⊥
+not-predicted Insert e = omega arith
+not-predicted Remove e = omega arith
 
 module _ (w : List ℕ) (L : ℕ) where
   -- one record more, in the code
@@ -68,7 +75,10 @@ module _ (w : List ℕ) (L : ℕ) where
 
   -- ## A lane's turn
 
-  module _ (index : List ℕ) (s₀ : State) (kind t n : ℕ) (known : t < tableCount w) (insert : (kind ≡ 2 → ⊥)) (size : n ≡ recordSize (tableOf (machine w L) t) kind) (l : Entries) (few : l .count ≤ 16) (named : All Named (entriesOf w l)) where
+  module _ (index : List ℕ) (s₀ : State) (what : Change) (t n : ℕ) (known : t < tableCount w) (size : n ≡ recordSize (tableOf (machine w L) t) (recordKind what)) (l : Entries) (few : l .count ≤ 16) (named : All Named (entriesOf w l)) where
+    abbrev kind : ℕ
+    kind = recordKind what
+
     abbrev row : ℕ → Args
     row i = listed w (columnsOf (s₀ .bindings)) i l
 
@@ -92,7 +102,7 @@ module _ (w : List ℕ) (L : ℕ) where
           fits = leb-true _ _ e;
           log-is = refl;
           used = refl;
-          index-ok = other-ok homeOf home-below (keysOf w) index (s .log) (m .is .index-ok) new insert;
+          index-ok = other-ok homeOf home-below (keysOf w) index (s .log) (m .is .index-ok) new (not-predicted what);
           next = m .is .next;
           counted = m .is .counted;
           flag = refl;
@@ -102,23 +112,23 @@ module _ (w : List ℕ) (L : ℕ) where
       staged-turn s c a b m is false e = stops refl refl refl
 
     pub list-turn : (o : Site) (s : State) (c : Logged) → o .lane < 256 → s .status ≡ going → c .state .stop ≡ Going → Staged s c
-        → Follows s (stageList (machine w L) o kind t n (entriesOf w l) s) (stagedLane kind t (row (o .lane)) true c .state .stop) (Staged (stageList (machine w L) o kind t n (entriesOf w l) s) (stagedLane kind t (row (o .lane)) true c))
+        → Follows s (stageList (machine w L) o kind t n (entriesOf w l) s) (stagedLane what t (row (o .lane)) true c .state .stop) (Staged (stageList (machine w L) o kind t n (entriesOf w l) s) (stagedLane what t (row (o .lane)) true c))
     unfolding stageList stagedLane
-    list-turn o s c h a b m = need-ind (λ s′. Follows s s′ (stagedLane kind t (row (o .lane)) true c .state .stop) (Staged s′ (stagedLane kind t (row (o .lane)) true c))) (listOf (s .bindings) (o .lane) n (entriesOf w l)) s _ (sticks refl) read
+    list-turn o s c h a b m = need-ind (λ s′. Follows s s′ (stagedLane what t (row (o .lane)) true c .state .stop) (Staged s′ (stagedLane what t (row (o .lane)) true c))) (listOf (s .bindings) (o .lane) n (entriesOf w l)) s _ (sticks refl) read
       where
         read : (ws : List ℕ) → listOf (s .bindings) (o .lane) n (entriesOf w l) ≡ some ws
             → let s′ : State = ifRoom (leb (logWords (s .log ++ (new o ws ∷ []))) L) (new o ws) (change (note (reads o ws) s)) (λ s′. s′) in
-            Follows s s′ (stagedLane kind t (row (o .lane)) true c .state .stop) (Staged s′ (stagedLane kind t (row (o .lane)) true c))
+            Follows s s′ (stagedLane what t (row (o .lane)) true c .state .stop) (Staged s′ (stagedLane what t (row (o .lane)) true c))
         read ws e =
             let is : ListIs ws n (row (o .lane)) = list-read w (s₀ .bindings) (o .lane) h l n ws few named (rw (m .kept .bindings) at e) in
-            let code : stagedLane kind t (row (o .lane)) true c ≡ record { state = changing (afterAppend (cond (leb (logWords (s .log ++ (new o ws ∷ []))) L) (Used (logWords (s .log ++ (new o ws ∷ [])))) NoRoom) (c .state)); log = cond (leb (logWords (s .log ++ (new o ws ∷ []))) L) (logOf (s .log ++ (new o ws ∷ [])) L) (logOf (s .log) L) } =
+            let code : stagedLane what t (row (o .lane)) true c ≡ record { state = changing (afterAppend (cond (leb (logWords (s .log ++ (new o ws ∷ []))) L) (Used (logWords (s .log ++ (new o ws ∷ [])))) NoRoom) (c .state)); log = cond (leb (logWords (s .log ++ (new o ws ∷ []))) L) (logOf (s .log ++ (new o ws ∷ [])) L) (logOf (s .log) L) } =
             when-T (codeGoes (c .state)) _ c (ap goesOn b) ∙ ap (λ (g : Logged). record { state = changing (g .state); log = g .log }) (stage-is (s .log) (s .counters) (s .changed) (c .state) (c .log) index (m .is) (new o ws) (row (o .lane) .vals) (row (o .lane) .count) (record-is (new o ws) (row (o .lane)) n is)) in
             let s′ : State = ifRoom (leb (logWords (s .log ++ (new o ws ∷ []))) L) (new o ws) (change (note (reads o ws) s)) (λ s′. s′) in
             subst (λ (g : Logged). Follows s s′ (g .state .stop) (Staged s′ g)) (sym code) (staged-turn o ws s c a b m is (leb (logWords (s .log ++ (new o ws ∷ []))) L) refl)
 
     -- ## All lanes
 
-    halted : (i : ℕ) (b : Bool) (c : Logged) → goesOn (c .state .stop) ≡ false → stagedLane kind t (row i) b c ≡ c
+    halted : (i : ℕ) (b : Bool) (c : Logged) → goesOn (c .state .stop) ≡ false → stagedLane what t (row i) b c ≡ c
     unfolding stagedLane
     halted i b c e = when-F (b && codeGoes (c .state)) _ c (by b (codeGoes (c .state)) e)
       where
@@ -126,23 +136,23 @@ module _ (w : List ℕ) (L : ℕ) where
         by true g e = e
         by false g e = refl
 
-    idle : (i : ℕ) (c : Logged) → stagedLane kind t (row i) false c ≡ c
+    idle : (i : ℕ) (c : Logged) → stagedLane what t (row i) false c ≡ c
     unfolding stagedLane
     idle i c = refl
 
     -- f stages where who says so, and does nothing of note elsewhere
     module _ (f : ℕ → State → State) (who : List Bool) (small : length (s₀ .live) ≤ 256)
-        (turn : (i : ℕ) (s : State) (c : Logged) → i < length (s₀ .live) → getD (s₀ .live) i false ≡ true → s .status ≡ going → c .state .stop ≡ Going → Staged s c → Follows s (f i s) (stagedLane kind t (row i) (getD who i false) c .state .stop) (Staged (f i s) (stagedLane kind t (row i) (getD who i false) c)))
+        (turn : (i : ℕ) (s : State) (c : Logged) → i < length (s₀ .live) → getD (s₀ .live) i false ≡ true → s .status ≡ going → c .state .stop ≡ Going → Staged s c → Follows s (f i s) (stagedLane what t (row i) (getD who i false) c .state .stop) (Staged (f i s) (stagedLane what t (row i) (getD who i false) c)))
         (dead : (i : ℕ) → getD (s₀ .live) i false ≡ false → getD who i false ≡ false) where
       pub stage-pass : (c₀ : Logged) → s₀ .status ≡ going → c₀ .state .stop ≡ Going → LogIs w L (s₀ .log) (s₀ .counters) (s₀ .changed) (c₀ .state) (c₀ .log) index
-          → Follows s₀ (lanes f s₀) (stagedLanes kind t row who c₀ .state .stop) (Staged (lanes f s₀) (stagedLanes kind t row who c₀))
+          → Follows s₀ (lanes f s₀) (stagedLanes what t row who c₀ .state .stop) (Staged (lanes f s₀) (stagedLanes what t row who c₀))
       unfolding lanes stagedLanes
-      stage-pass c₀ a b is = pass-ends (λ c. c .state .stop) isLive f (λ i. stagedLane kind t (row i) (getD who i false)) (λ i s c. Staged s c) (λ i. getD (s₀ .live) i false) (length (s₀ .live)) s₀ (record {
+      stage-pass c₀ a b is = pass-ends (λ c. c .state .stop) isLive f (λ i. stagedLane what t (row i) (getD who i false)) (λ i s c. Staged s c) (λ i. getD (s₀ .live) i false) (length (s₀ .live)) s₀ (record {
         quiet = λ s i e. rw e;
         same = λ i s c l e m. rw (e, m .kept .live);
         past = λ i l. List·getD-eq-default (s₀ .live) false {n = i} l;
         halted = λ i c e. halted i (getD who i false) c e;
-        idle = λ i c e. ap (λ (b : Bool). stagedLane kind t (row i) b c) (dead i e) ∙ idle i c;
+        idle = λ i c e. ap (λ (b : Bool). stagedLane what t (row i) b c) (dead i e) ∙ idle i c;
         kept = λ i s c m. m .kept .answers;
         skip = λ i s c l e m. m;
         turn = λ i s c l e x y m. turn i s c l e x y m;
@@ -150,10 +160,10 @@ module _ (w : List ℕ) (L : ℕ) where
 
     pub list-pass : (k j : ℕ) → length (s₀ .live) ≤ 256 → (c₀ : Logged) → s₀ .status ≡ going → c₀ .state .stop ≡ Going → LogIs w L (s₀ .log) (s₀ .counters) (s₀ .changed) (c₀ .state) (c₀ .log) index
         → let s : State = lanes (λ i. stageList (machine w L) (here k j i) kind t n (entriesOf w l)) s₀ in
-        let c : Logged = stagedLanes kind t row (padded (s₀ .live)) c₀ in
+        let c : Logged = stagedLanes what t row (padded (s₀ .live)) c₀ in
         Follows s₀ s (c .state .stop) (Staged s c)
     list-pass k j small c₀ = stage-pass (λ i. stageList (machine w L) (here k j i) kind t n (entriesOf w l)) (padded (s₀ .live)) small
-        (λ i s c h e a b m. subst (λ (q : Bool). Follows s (stageList (machine w L) (here k j i) kind t n (entriesOf w l) s) (stagedLane kind t (row i) q c .state .stop) (Staged (stageList (machine w L) (here k j i) kind t n (entriesOf w l) s) (stagedLane kind t (row i) q c))) (sym (has-padded (s₀ .live) i ∙ e)) (list-turn (here k j i) s c (omega arith) a b m))
+        (λ i s c h e a b m. subst (λ (q : Bool). Follows s (stageList (machine w L) (here k j i) kind t n (entriesOf w l) s) (stagedLane what t (row i) q c .state .stop) (Staged (stageList (machine w L) (here k j i) kind t n (entriesOf w l) s) (stagedLane what t (row i) q c))) (sym (has-padded (s₀ .live) i ∙ e)) (list-turn (here k j i) s c (omega arith) a b m))
         (λ i e. has-padded (s₀ .live) i ∙ e) c₀
 
     -- where two entries are equal
@@ -175,18 +185,18 @@ module _ (w : List ℕ) (L : ℕ) where
       abbrev turn : ℕ → ℕ → ℕ → State → State
       turn k j i = readPair (here k j i) (entryOf a) (entryOf b) λ x y. when (eqb x y) (stageList (machine w L) (here k j i) kind t n (entriesOf w l))
 
-      pair-turn : (k j i : ℕ) (s : State) (c : Logged) → i < 256 → s .status ≡ going → c .state .stop ≡ Going → Staged s c → Follows s (turn k j i s) (stagedLane kind t (row i) (equal i) c .state .stop) (Staged (turn k j i s) (stagedLane kind t (row i) (equal i) c))
+      pair-turn : (k j i : ℕ) (s : State) (c : Logged) → i < 256 → s .status ≡ going → c .state .stop ≡ Going → Staged s c → Follows s (turn k j i s) (stagedLane what t (row i) (equal i) c .state .stop) (Staged (turn k j i s) (stagedLane what t (row i) (equal i) c))
       unfolding readPair holds
       pair-turn k j i s c h e o m = need-ind P (valueOf (s .bindings) i (entryOf a)) s _ (sticks refl) (λ x p. need-ind P (valueOf (s .bindings) i (entryOf b)) s _ (sticks refl) (λ y q. both x y (is a na x p) (is b nb y q)))
         where
           P : State → Type 0
-          P s′ = Follows s s′ (stagedLane kind t (row i) (equal i) c .state .stop) (Staged s′ (stagedLane kind t (row i) (equal i) c))
+          P s′ = Follows s s′ (stagedLane what t (row i) (equal i) c .state .stop) (Staged s′ (stagedLane what t (row i) (equal i) c))
 
           is : (e : QueryEntry) → Named (entryOf e) → (x : ℕ) → valueOf (s .bindings) i (entryOf e) ≡ some x → wordOf (columnsOf (s₀ .bindings)) i (entryOf e) ≡ x
           is e n x p = word-is (s₀ .bindings) i h (entryOf e) x n (rw (m .kept .bindings) at p)
 
           both : (x y : ℕ) → wordOf (columnsOf (s₀ .bindings)) i (entryOf a) ≡ x → wordOf (columnsOf (s₀ .bindings)) i (entryOf b) ≡ y → P (when (eqb x y) (stageList (machine w L) (here k j i) kind t n (entriesOf w l)) (note (reads (here k j i) (x ∷ y ∷ [])) s))
-          both x y p q = subst (λ (r : Bool). Follows s (when (eqb x y) stages s₁) (stagedLane kind t (row i) r c .state .stop) (Staged (when (eqb x y) stages s₁) (stagedLane kind t (row i) r c))) (sym (rw (p, q))) (by (eqb x y))
+          both x y p q = subst (λ (r : Bool). Follows s (when (eqb x y) stages s₁) (stagedLane what t (row i) r c .state .stop) (Staged (when (eqb x y) stages s₁) (stagedLane what t (row i) r c))) (sym (rw (p, q))) (by (eqb x y))
             where
               s₁ : State
               s₁ = note (reads (here k j i) (x ∷ y ∷ [])) s
@@ -197,10 +207,10 @@ module _ (w : List ℕ) (L : ℕ) where
               m₁ : Staged s₁ c
               m₁ = record { kept = record { bindings = m .kept .bindings; live = m .kept .live; out = m .kept .out; answers = m .kept .answers }; is = m .is }
 
-              by : (r : Bool) → Follows s (when r stages s₁) (stagedLane kind t (row i) r c .state .stop) (Staged (when r stages s₁) (stagedLane kind t (row i) r c))
+              by : (r : Bool) → Follows s (when r stages s₁) (stagedLane what t (row i) r c .state .stop) (Staged (when r stages s₁) (stagedLane what t (row i) r c))
               by true = turned (list-turn (here k j i) s₁ c h e o m₁)
                 where
-                  turned : Follows s₁ (stages s₁) (stagedLane kind t (row i) true c .state .stop) (Staged (stages s₁) (stagedLane kind t (row i) true c)) → Follows s (stages s₁) (stagedLane kind t (row i) true c .state .stop) (Staged (stages s₁) (stagedLane kind t (row i) true c))
+                  turned : Follows s₁ (stages s₁) (stagedLane what t (row i) true c .state .stop) (Staged (stages s₁) (stagedLane what t (row i) true c)) → Follows s (stages s₁) (stagedLane what t (row i) true c .state .stop) (Staged (stages s₁) (stagedLane what t (row i) true c))
                   turned (sticks x) = sticks x
                   turned (stops x y z) = stops x y z
                   turned (goes x y z) = goes x y z
@@ -208,8 +218,8 @@ module _ (w : List ℕ) (L : ℕ) where
 
       pub if-pass : (k j : ℕ) → length (s₀ .live) ≤ 256 → (c₀ : Logged) → s₀ .status ≡ going → c₀ .state .stop ≡ Going → LogIs w L (s₀ .log) (s₀ .counters) (s₀ .changed) (c₀ .state) (c₀ .log) index
           → let s : State = lanes (turn k j) s₀ in
-          let c : Logged = stagedLanes kind t row who c₀ in
+          let c : Logged = stagedLanes what t row who c₀ in
           Follows s₀ s (c .state .stop) (Staged s c)
       if-pass k j small c₀ = stage-pass (turn k j) who small
-          (λ i s c h e x y m. subst (λ (q : Bool). Follows s (turn k j i s) (stagedLane kind t (row i) q c .state .stop) (Staged (turn k j i s) (stagedLane kind t (row i) q c))) (sym (is-who i (omega arith) ∙ rw e)) (pair-turn k j i s c (omega arith) x y m))
+          (λ i s c h e x y m. subst (λ (q : Bool). Follows s (turn k j i s) (stagedLane what t (row i) q c .state .stop) (Staged (turn k j i s) (stagedLane what t (row i) q c))) (sym (is-who i (omega arith) ∙ rw e)) (pair-turn k j i s c (omega arith) x y m))
           no-who c₀

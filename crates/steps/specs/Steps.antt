@@ -34,7 +34,7 @@ module _ (w : List ℕ) where
   startBatch at x log index =
       let v = getD w (at + 2) 0 in
       let n = getD w (at + 1) 0 in
-      record { batch = record { lanes = laneCount v n; mask = record { live = firstLanes (laneCount v n) }; bound = firstBound v; state = x }; bindings = loaded w (at + 3) n v (replicate 8192 0); log = log; index = index }
+      record { batch = record { bindings = record { matches = laneCount v n; bound = firstBound v }; mask = record { live = firstLanes (laneCount v n) }; state = x }; bindings = loaded w (at + 3) n v (replicate 8192 0); log = log; index = index }
 
   -- the rule's first word, and how many instructions it has
   abbrev pub ruleOf : ℕ → ℕ

@@ -1,6 +1,7 @@
 // The two kinds of step: a batch runs its rule, a prediction asks for a row. An index of the book's rows is lent as `committed`, or an empty one for none.
 use action::Batch;
 use args::Args;
+use bindings::Bindings;
 use bound::Bound;
 use execution::ExecutionState;
 use ids::TableId;
@@ -47,10 +48,13 @@ pub fn run_batch(
     let lanes = lane_count(v, n);
     words::clear(bindings);
     bindings::load(words, at + 3, v, n, bindings);
-    let start = Batch {
-        lanes,
-        mask: Mask::new(lanes),
+    let kept = Bindings {
+        matches: lanes,
         bound: Bound::first(words::size(v)),
+    };
+    let start = Batch {
+        bindings: kept,
+        mask: Mask::new(lanes),
         state,
     };
     action::run_instrs(words, committed, base, rule, start, bindings, log, index)

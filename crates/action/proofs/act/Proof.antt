@@ -135,6 +135,9 @@ new-requires c κs = search needs
 read-counter-requires : tie.Need-read-counter-requires
 read-counter-requires c κs = search needs
 
+fill-requires-3 : tie.Need-fill-requires-3
+fill-requires-3 c κs = search needs
+
 same-length : tie.Need-same-length
 same-length c = search needs
 
@@ -233,7 +236,7 @@ same-length-12 c = search needs
 
 returns-13 : tie.Need-returns-13
 unfolding acted
-returns-13 c = (rw (c .before .before .before .before .before .before .i13 .given .1, c .before .before .read-counter .ensures, c .before .before .before .before .new .ensures), c .before .before .before .before .before .before .before .before .before .before .before .before .before .before .pre .3 .used)
+returns-13 c = (rw (c .before .before .before .before .before .before .before .i13 .given .1, c .before .before .fill3 .ensures .1, c .before .before .before .before .read-counter .ensures, c .before .before .before .before .before .new .ensures), c .before .before .before .before .before .before .before .before .before .before .before .before .before .before .before .pre .3 .used)
 
 pub act-spec : {M : Type 1} → statement M
 act-spec =
@@ -271,6 +274,7 @@ act-spec =
     enum-known-i-13
     new-requires
     read-counter-requires
+    fill-requires-3
     same-length
     same-length-2
     same-length-3

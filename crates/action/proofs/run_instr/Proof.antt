@@ -17,20 +17,14 @@ act-requires c κs = search needs
 dst-requires : tie.Need-dst-requires
 dst-requires c κs = search needs
 
-slice-aggregate-bind-column : tie.Need-slice-aggregate-bind-column
-slice-aggregate-bind-column c = search needs
-
-bind-column-requires : tie.Need-bind-column-requires
-bind-column-requires c κs =
-    let a = c .before .before .before .before .before .before .before .before .before .before .before .before .before .before .before .before .before .before .before .before .before .before .before .args in
-    let p = c .before .before .before .before .before .before .before .before .before .before .before .before .before .before .before .before .before .before .before .before .before .before .before .pre in
-    (rw (c .before .before .dst .ensures) (binds-variable (now (a .words)) (a .i) (p .2)), p .4)
+slice-aggregate-bind-dst : tie.Need-slice-aggregate-bind-dst
+slice-aggregate-bind-dst c = search needs
 
 bind-dst-requires : tie.Need-bind-dst-requires
 bind-dst-requires c κs =
-    let a = c .before .before .before .before .before .before .before .before .before .before .before .before .before .before .before .before .before .before .before .before .before .before .before .before .before .before .args in
-    let p = c .before .before .before .before .before .before .before .before .before .before .before .before .before .before .before .before .before .before .before .before .before .before .before .before .before .before .pre in
-    rw (c .before .before .before .before .before .dst .ensures) (binds-variable (now (a .words)) (a .i) (p .2))
+    let a = c .before .before .before .before .before .before .before .before .before .before .before .before .before .before .before .before .before .before .before .before .before .before .args in
+    let p = c .before .before .before .before .before .before .before .before .before .before .before .before .before .before .before .before .before .before .before .before .before .before .pre in
+    (rw (c .before .before .dst .ensures) (binds-variable (now (a .words)) (a .i) (p .2)), p .4)
 
 same-length : tie.Need-same-length
 same-length c = search needs
@@ -44,10 +38,11 @@ same-length-3 c = search needs
 returns : tie.Need-returns
 unfolding ranInstr
 returns c =
-    let a = c .before .before .before .before .before .before .before .before .before .before .before .before .before .before .before .before .before .before .before .before .before .before .before .before .before .before .before .args in
-    let e = c .before .before .before .before .before .before .before .before .before .before .before .before .before .before .act .ensures in
+    let a = c .before .before .before .before .before .before .before .before .before .before .before .before .before .before .before .before .before .before .before .before .before .before .before .before .before .args in
+    let e = c .before .before .before .before .before .before .before .before .before .before .before .before .before .act .ensures in
+    let b = c .before .before .bind-dst .ensures in
     let r : Running = record { batch = a .batch; bindings = now (a .bindings); log = now (a .log); index = now (a .index) } in
-    (rw (c .bind-dst .ensures, c .before .before .before .bind-column .ensures, c .before .before .before .before .before .before .dst .ensures) (ap (λ (l : Lanes). finished (bindsOf (a .i)) l r) (e .0)), e .1)
+    (rw (b .0, b .1, c .before .before .before .before .before .dst .ensures) (ap (λ (l : Lanes). finished (bindsOf (a .i)) l r) (e .0)), e .1)
 
 pub run-instr-spec : {M : Type 1} → statement M
 run-instr-spec =
@@ -56,8 +51,7 @@ run-instr-spec =
     slice-aggregate-act
     act-requires
     dst-requires
-    slice-aggregate-bind-column
-    bind-column-requires
+    slice-aggregate-bind-dst
     bind-dst-requires
     same-length
     same-length-2

@@ -15,8 +15,8 @@ append-requires c κs = search needs
 enum-known-v-2 : tie.Need-enum-known-v-2
 enum-known-v-2 c = search needs
 
-hand-out-requires : tie.Need-hand-out-requires
-hand-out-requires c κs = search needs
+inc-counter-requires : tie.Need-inc-counter-requires
+inc-counter-requires c κs = search needs
 
 enum-known-v-3 : tie.Need-enum-known-v-3
 enum-known-v-3 c = search needs
@@ -33,7 +33,7 @@ returns c = rw (c .before .before .before .v .given .1, ← c .before .value .en
 
 returns-2 : tie.Need-returns-2
 unfolding written
-returns-2 c = rw (c .before .before .v2 .given .1) (c .hand-out .ensures)
+returns-2 c = rw (c .before .before .v2 .given .1) (c .inc-counter .ensures)
 
 returns-3 : tie.Need-returns-3
 unfolding written
@@ -47,7 +47,7 @@ write-spec =
     value-requires
     append-requires
     enum-known-v-2
-    hand-out-requires
+    inc-counter-requires
     enum-known-v-3
     current-requires
     append-requires-2

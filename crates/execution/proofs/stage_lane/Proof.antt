@@ -1,8 +1,8 @@
+use mathlib.Core.Path.{ap}
 use native.Mathlib.Omega.{arith}
 use Rattle.args.specs.declared.Args.{Args}
-use mathlib.Core.Path.{ap}
 use Rattle.bindings.specs.Columns.{fetched}
-use Rattle.execution.specs.Execution.{Logged, changing, stagedLane}
+use Rattle.execution.specs.Execution.{stagedLane}
 use borrow.Author.Needs.{needs}
 use Rattle.execution.proofs.stage_lane.Statement.{statement}
 use Rattle.execution.proofs.stage_lane.Tie as tie
@@ -13,11 +13,23 @@ going-requires c κs = search needs
 fetch-requires : tie.Need-fetch-requires
 fetch-requires c κs = search needs
 
-stage-requires : tie.Need-stage-requires
+enum-told : tie.Need-enum-told
+enum-told c = search needs
+
+stage-insert-requires : tie.Need-stage-insert-requires
 unfolding fetched
-stage-requires c κs =
-    let n = ap (λ (x : Args). x .count) (c .before .before .before .fetch .ensures) in
-    (search needs, omega (arith, c .before .before .before .before .before .before .before .before .before .pre .0 .1))
+stage-insert-requires c κs =
+    let n = ap (λ (x : Args). x .count) (c .before .before .before .before .before .fetch .ensures) in
+    (c .before .before .before .before .before .before .before .before .before .before .before .pre .1, omega (arith, c .before .before .before .before .before .before .before .before .before .before .before .pre .0 .1))
+
+enum-told-2 : tie.Need-enum-told-2
+enum-told-2 c = search needs
+
+stage-remove-requires : tie.Need-stage-remove-requires
+unfolding fetched
+stage-remove-requires c κs =
+    let n = ap (λ (x : Args). x .count) (c .before .before .before .before .before .fetch .ensures) in
+    (c .before .before .before .before .before .before .before .before .before .before .before .pre .1, omega (arith, c .before .before .before .before .before .before .before .before .before .before .before .pre .0 .1))
 
 same-length : tie.Need-same-length
 same-length c = search needs
@@ -25,13 +37,34 @@ same-length c = search needs
 returns : tie.Need-returns
 unfolding stagedLane
 returns c =
-    let e = c .before .before .stage .ensures in
-    (rw (← c .before .before .before .before .before .before .before .before .going .ensures, c .before .before .before .before .before .before .before .if1 .taken, ← c .before .before .before .before .before .before .fetch .ensures) (ap (λ (x : Logged). record { state = changing (x .state); log = x .log }) (e .0)), e .1)
+    let e = c .before .before .stage-insert .ensures in
+    (rw (← c .before .before .before .before .before .before .before .before .before .before .going .ensures, c .before .before .before .before .before .before .before .before .before .if1 .taken, ← c .before .before .before .before .before .before .before .before .fetch .ensures, c .before .before .before .before .before .enum-told .given .1) (e .0), e .1)
+
+same-length-2 : tie.Need-same-length-2
+same-length-2 c = search needs
 
 returns-2 : tie.Need-returns-2
 unfolding stagedLane
-returns-2 c = (rw (← c .before .going .ensures, c .if1 .left), c .before .before .before .before .before .pre .1)
+returns-2 c =
+    let e = c .before .before .stage-remove .ensures in
+    (rw (← c .before .before .before .before .before .before .before .before .before .before .going .ensures, c .before .before .before .before .before .before .before .before .before .if1 .taken, ← c .before .before .before .before .before .before .before .before .fetch .ensures, c .before .before .before .before .before .enum-told2 .given .1) (e .0), e .1)
+
+returns-3 : tie.Need-returns-3
+unfolding stagedLane
+returns-3 c = (rw (← c .before .going .ensures, c .if1 .left), c .before .before .before .before .before .pre .1)
 
 pub stage-lane-spec : {M : Type 1} → statement M
 stage-lane-spec =
-    tie.close (tie.spec going-requires fetch-requires stage-requires same-length returns returns-2)
+    tie.close
+    (tie.spec
+    going-requires
+    fetch-requires
+    enum-told
+    stage-insert-requires
+    enum-told-2
+    stage-remove-requires
+    same-length
+    returns
+    same-length-2
+    returns-2
+    returns-3)

@@ -17,7 +17,7 @@ Inv-loop words bindings what log₀ mask n s₀ i₀ log s i =
     (i ≤ n)
     × (length log ≡ length log₀)
     × (s .used ≤ length log₀)
-    × (_≡_ {A = Logged} (record { state = s; log = log }) (iter (λ k. stagedLane (what .kind) (what .table .0) (listed words bindings k (what .vals)) (getD (mask .live) k false)) i (record { state = s₀; log = log₀ })))
+    × (_≡_ {A = Logged} (record { state = s; log = log }) (iter (λ k. stagedLane (what .change) (what .table .0) (listed words bindings k (what .vals)) (getD (mask .live) k false)) i (record { state = s₀; log = log₀ })))
 
 abbrev μ-loop : tie.MeasureT-loop
 μ-loop words bindings what log₀ mask n s₀ i₀ log s i = n - i

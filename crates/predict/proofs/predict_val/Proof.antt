@@ -13,8 +13,8 @@ enum-told c = search needs
 enum-told-2 : tie.Need-enum-told-2
 enum-told-2 c = search needs
 
-get-or-insert-requires : tie.Need-get-or-insert-requires
-get-or-insert-requires c κs = search needs
+get-or-insert-with-requires : tie.Need-get-or-insert-with-requires
+get-or-insert-with-requires c κs = search needs
 
 note-change-requires : tie.Need-note-change-requires
 note-change-requires c κs = search needs
@@ -32,7 +32,7 @@ same-length-2 c = search needs
 returns-2 : tie.Need-returns-2
 unfolding answered
 returns-2 c =
-    let e = c .before .before .before .before .before .get-or-insert .ensures in
+    let e = c .before .before .before .before .before .get-or-insert-with .ensures in
     (rw (← c .before .before .before .before .before .before .before .before .before .before .look-up-among .ensures, c .before .before .before .before .before .before .before .before .enum-told2 .given .1, c .note-change .ensures) (ap (λ (g : Gotten). record { got = noted (g .got); log = g .log; index = g .index }) (e .0)), rw (c .note-change .ensures) (e .1))
 
 pub predict-val-spec : {M : Type 1} → statement M
@@ -42,7 +42,7 @@ predict-val-spec =
     look-up-among-requires
     enum-told
     enum-told-2
-    get-or-insert-requires
+    get-or-insert-with-requires
     note-change-requires
     returns
     same-length

@@ -14,9 +14,9 @@ going-requires c κs = search needs
 fetch-requires : tie.Need-fetch-requires
 fetch-requires c κs = search needs
 
-get-or-insert-requires : tie.Need-get-or-insert-requires
+get-or-insert-with-requires : tie.Need-get-or-insert-with-requires
 unfolding fetched
-get-or-insert-requires c κs =
+get-or-insert-with-requires c κs =
     let p = c .before .before .before .before .before .before .before .before .before .before .before .pre in
     let n = ap (λ (x : Args). x .count) (c .before .before .fetch .ensures) in
     (p .2, p .0 .stands .few, omega (arith, p .1 .1), p .3)
@@ -40,7 +40,7 @@ returns : tie.Need-returns
 unfolding servedLane
 returns c =
     let a = c .before .before .before .before .before .before .before .before .before .before .before .before .before .before .before .before .before .before .before .before .before .before .before .before .args in
-    let e = c .before .before .before .before .before .before .before .before .before .before .before .before .get-or-insert .ensures in
+    let e = c .before .before .before .before .before .before .before .before .before .before .before .before .get-or-insert-with .ensures in
     (rw (← c .before .before .before .before .before .before .before .before .before .before .before .before .before .before .before .before .before .going .ensures, c .before .before .before .before .before .before .before .before .before .before .before .before .before .before .before .before .if1 .taken, ← c .before .before .before .before .before .before .before .before .before .before .before .before .before .before .before .fetch .ensures, c .before .before .take .ensures, c .before .before .before .before .before .before .going2 .ensures) (ap (λ (g : Gotten). taken (now (a .words)) (a .ask) (c .before .before .before .before .before .before .before .before .before .before .before .before .before .before .before .fetch .result .vals) (a .lane .0) (now (a .out)) g) (e .0)), e .1)
 
 returns-2 : tie.Need-returns-2
@@ -53,7 +53,7 @@ serve-lane-spec =
     (tie.spec
     going-requires
     fetch-requires
-    get-or-insert-requires
+    get-or-insert-with-requires
     going-requires-2
     take-requires
     same-length

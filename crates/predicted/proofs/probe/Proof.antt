@@ -28,8 +28,8 @@ returns c =
     let a = c .before .before .before .before .before .before .args in
     (sym (l .inv .2 ∙ probe-free (now (a .index)) (answers (now (a .log)) (a .table .0) (now (a .key)) (a .k)) 8192 (l .j) (l .s) (c .before .before .loop-test .taken) (sym (c .before .size-at .ensures .0) ∙ c .if1 .taken)), tt)
 
-stands-requires : tie.Need-stands-requires Inv-loop μ-loop
-stands-requires c κs = search needs
+matches-requires : tie.Need-matches-requires Inv-loop μ-loop
+matches-requires c κs = search needs
 
 sub-t12 : tie.Need-sub-t12 Inv-loop μ-loop
 sub-t12 c = search needs
@@ -40,7 +40,7 @@ returns-2 c =
     let a = c .before .before .before .before .before .before .before .before .args in
     let v = c .before .before .before .size-at .ensures .0 in (
       ap (λ (x : ℕ). Hit (x - 1)) v
-          ∙ sym (l .inv .2 ∙ probe-hit (now (a .index)) (answers (now (a .log)) (a .table .0) (now (a .key)) (a .k)) 8192 (l .j) (l .s) (c .before .before .before .before .loop-test .taken) (rw v at (c .before .before .if1 .left)) (ap (answers (now (a .log)) (a .table .0) (now (a .key)) (a .k)) (sym v) ∙ sym (c .before .stands .ensures) ∙ c .if2 .taken)),
+          ∙ sym (l .inv .2 ∙ probe-hit (now (a .index)) (answers (now (a .log)) (a .table .0) (now (a .key)) (a .k)) 8192 (l .j) (l .s) (c .before .before .before .before .loop-test .taken) (rw v at (c .before .before .if1 .left)) (ap (answers (now (a .log)) (a .table .0) (now (a .key)) (a .k)) (sym v) ∙ sym (c .before .matches .ensures) ∙ c .if2 .taken)),
       omega arith,
     )
 
@@ -58,7 +58,7 @@ loop-again c =
     let l = c .before .before .before .before .before .before .loop in
     let a = c .before .before .before .before .before .before .before .before .before .args in
     let v = c .before .before .before .before .size-at .ensures .0 in
-    (search needs, search needs, l .inv .2 ∙ probe-on (now (a .index)) (answers (now (a .log)) (a .table .0) (now (a .key)) (a .k)) 8192 (l .j) (l .s) (c .before .before .before .before .before .loop-test .taken) (rw v at (c .before .before .before .if1 .left)) (ap (answers (now (a .log)) (a .table .0) (now (a .key)) (a .k)) (sym v) ∙ sym (c .before .before .stands .ensures) ∙ c .before .if2 .left) ∙ rw (c .next .ensures .0))
+    (search needs, search needs, l .inv .2 ∙ probe-on (now (a .index)) (answers (now (a .log)) (a .table .0) (now (a .key)) (a .k)) 8192 (l .j) (l .s) (c .before .before .before .before .before .loop-test .taken) (rw v at (c .before .before .before .if1 .left)) (ap (answers (now (a .log)) (a .table .0) (now (a .key)) (a .k)) (sym v) ∙ sym (c .before .before .matches .ensures) ∙ c .before .if2 .left) ∙ rw (c .next .ensures .0))
 
 returns-3 : tie.Need-returns-3 Inv-loop μ-loop
 returns-3 c =
@@ -75,7 +75,7 @@ probe-spec =
     loop-holds
     size-at-requires
     returns
-    stands-requires
+    matches-requires
     sub-t12
     returns-2
     next-requires

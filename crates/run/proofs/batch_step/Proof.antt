@@ -13,16 +13,16 @@ use Rattle.run.proofs.batch_step.Statement.{statement}
 use Rattle.run.proofs.batch_step.Tie as tie
 
 -- the batch has at most 256 lanes, and its body at most 8483 words
-few : (c : tie.After-run-batch) → c .run-batch .result .lanes ≤ 256
+few : (c : tie.After-run-batch) → c .run-batch .result .bindings .matches ≤ 256
 few c =
     let a = c .before .before .before .before .before .before .before .before .before .before .before .args in
     let q = c .before .before .before .before .before .before .before .before .before .before .before .pre in
-    omega (arith, ap (λ (x : Running). x .batch .lanes) (c .run-batch .ensures .0), lanes-most (q .0) (q .3) (q .4) (a .p .state) (now (a .log)) (now (a .index)))
+    omega (arith, ap (λ (x : Running). x .batch .bindings .matches) (c .run-batch .ensures .0), lanes-most (q .0) (q .3) (q .4) (a .p .state) (now (a .log)) (now (a .index)))
 
-most : (c : tie.After-write-batch) → c .write-batch .result ≤ c .before .before .before .before .before .before .before .before .before .before .before .before .before .before .before .before .before .before .before .before .before .before .before .before .before .args .p .at + 8483
+most : (c : tie.After-write-batch) → c .write-batch .result ≤ c .before .before .before .before .before .before .before .before .before .before .before .before .before .before .before .before .before .before .before .before .before .before .before .args .p .at + 8483
 most c =
-    let r = c .before .before .before .before .before .before .before .before .before .before .before .before .before .before .run-batch in
-    omega (arith, c .write-batch .ensures .1, batch-most (r .result .lanes) (r .result .bound .known) (r .last .1 .1 .1 .1 .1 .0) (few (c .before .before .before .before .before .before .before .before .before .before .before .before .before .before)) (r .kept .1 .1 .1 .1 .1 .0 ∙ c .before .before .before .before .before .before .before .before .before .before .before .before .before .before .before .before .before .before .before .before .before .before .before .before .before .pre .7) (r .result .mask .live))
+    let r = c .before .before .before .before .before .before .before .before .before .before .before .before .run-batch in
+    omega (arith, c .write-batch .ensures .1, batch-most (r .result .bindings .matches) (r .result .bindings .bound .known) (r .last .1 .1 .1 .1 .1 .0) (few (c .before .before .before .before .before .before .before .before .before .before .before .before)) (r .kept .1 .1 .1 .1 .1 .0 ∙ c .before .before .before .before .before .before .before .before .before .before .before .before .before .before .before .before .before .before .before .before .before .before .before .pre .7) (r .result .mask .live))
 
 run-batch-requires : tie.Need-run-batch-requires
 run-batch-requires c κs = search needs
@@ -31,10 +31,10 @@ going-requires : tie.Need-going-requires
 going-requires c κs = search needs
 
 write-batch-requires : tie.Need-write-batch-requires
-write-batch-requires c κs = let q = c .before .before .before .before .before .before .before .before .before .before .before .before .before .before .before .before .before .before .before .before .before .before .before .before .pre in (search needs, few (c .before .before .before .before .before .before .before .before .before .before .before .before .before), omega (arith, q .5 .at))
+write-batch-requires c κs = let q = c .before .before .before .before .before .before .before .before .before .before .before .before .before .before .before .before .before .before .before .before .before .before .pre in (search needs, few (c .before .before .before .before .before .before .before .before .before .before .before), omega (arith, q .5 .at))
 
 advance-requires : tie.Need-advance-requires
-advance-requires c κs = let q = c .before .before .before .before .before .before .before .before .before .before .before .before .before .before .before .before .before .before .before .before .before .before .before .before .before .before .before .pre in (q .5 .done, omega (arith, c .before .before .write-batch .ensures .1), omega (arith, most (c .before .before), q .5 .at))
+advance-requires c κs = let q = c .before .before .before .before .before .before .before .before .before .before .before .before .before .before .before .before .before .before .before .before .before .before .before .before .before .pre in (q .5 .done, omega (arith, c .before .before .write-batch .ensures .1), omega (arith, most (c .before .before), q .5 .at))
 
 same-length : tie.Need-same-length
 same-length c = search needs
@@ -51,12 +51,12 @@ same-length-4 c = search needs
 returns : tie.Need-returns
 unfolding batchStep
 returns c =
-    let a = c .before .before .before .before .before .before .before .before .before .before .before .before .before .before .before .before .before .before .before .before .before .before .before .before .before .before .before .before .args in
-    let r = c .before .before .before .before .before .before .before .before .before .before .before .before .before .before .before .before .before .run-batch in
+    let a = c .before .before .before .before .before .before .before .before .before .before .before .before .before .before .before .before .before .before .before .before .before .before .before .before .before .before .args in
+    let r = c .before .before .before .before .before .before .before .before .before .before .before .before .before .before .before .run-batch in
     let b = c .before .before .before .write-batch in
     let A : Ran = record { progress = a .p; bindings = now (a .bindings); log = now (a .log); index = now (a .index); answer = now (a .answer) } in
     let R : Running = record { batch = r .result; bindings = r .last .1 .1 .1 .1 .1 .0; log = r .last .1 .1 .1 .1 .1 .1 .0; index = r .last .1 .1 .1 .1 .1 .1 .1 .0 } in (
-      batch-answered R A (c .advance .result) (b .last .1 .1 .1 .1 .1 .0) (sym (c .before .before .before .before .before .before .before .before .before .going .ensures) ∙ c .before .before .before .before .before .before .before .before .if1 .taken) (c .advance .ensures ∙ ap (λ (e : ℕ). advanced (r .result .state) e (a .p)) (b .ensures .1)) (b .ensures .0)
+      batch-answered R A (c .advance .result) (b .last .1 .1 .1 .1 .0) (sym (c .before .before .before .before .before .before .before .going .ensures) ∙ c .before .before .before .before .before .before .if1 .taken) (c .advance .ensures ∙ ap (λ (e : ℕ). advanced (r .result .state) e (a .p)) (b .ensures .1)) (b .ensures .0)
           ∙ ap (λ (x : Running). batchTold x A) (r .ensures .0),
       subst (λ (x : Progress). (x .state .used ≤ length (now (a .log))) × (x .done ≤ a .p .done + 1) × (x .at ≤ a .p .at + 8483)) (sym (c .advance .ensures)) (r .ensures .1, omega arith, most (c .before .before .before)),
     )

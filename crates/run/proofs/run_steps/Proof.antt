@@ -8,13 +8,10 @@ use borrow.Author.Needs.{needs}
 use Rattle.run.proofs.run_steps.Statement.{statement}
 use Rattle.run.proofs.run_steps.Tie as tie
 
-cast-t13 : tie.Need-cast-t13
-cast-t13 c =
+rows-before-requires : tie.Need-rows-before-requires
+rows-before-requires c κs =
     let q = c .before .before .before .before .before .pre in
     omega (arith, q .1, few-tables (now (c .before .before .before .before .before .args .words)) (q .0))
-
-rows-before-requires : tie.Need-rows-before-requires
-rows-before-requires c κs = search needs
 
 serves-requires : tie.Need-serves-requires
 serves-requires c κs = search needs
@@ -67,7 +64,6 @@ pub run-steps-spec : {M : Type 1} → statement M
 run-steps-spec =
     tie.close
     (tie.spec
-    cast-t13
     rows-before-requires
     serves-requires
     run-indexed-requires

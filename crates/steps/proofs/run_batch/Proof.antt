@@ -54,14 +54,14 @@ load-requires c κs =
     let n = c .before .before .before .before .before .before .before .size2 .ensures .0 ∙ c .before .before .before .before .before .before .before .before .word2 .ensures in
     (rw (v, n, first) (columns-within (q .0) (q .3) (q .4)), rw (v, first) (omega (arith, batch-facts (q .0) (q .3) (q .4) .columns, q .6, c .before .before .before .clear .kept)))
 
-new-requires : tie.Need-new-requires
-new-requires c κs = search needs
-
 size-requires-3 : tie.Need-size-requires-3
 size-requires-3 c κs = search needs
 
 first-requires : tie.Need-first-requires
 first-requires c κs = search needs
+
+new-requires : tie.Need-new-requires
+new-requires c κs = search needs
 
 run-instrs-requires : tie.Need-run-instrs-requires
 run-instrs-requires c κs =
@@ -90,9 +90,9 @@ returns c =
     let lanes = c .before .before .before .before .before .before .before .before .before .before .before .before .before .before .before .before .before .before .before .before .before .lane-count .ensures in
     let zero = c .before .before .before .before .before .before .before .before .before .before .before .before .before .before .before .before .before .before .before .clear .ensures ∙ ap (λ (n : ℕ). replicate n 0) (q .6) in
     let columns = c .before .before .before .before .before .before .before .before .before .before .before .before .before .before .before .load .ensures in
-    let mask : c .before .before .before .before .before .before .before .before .before .before .before .before .new .result ≡ record { live = firstLanes (c .before .before .before .before .before .before .before .before .before .before .before .before .before .before .before .before .before .before .before .before .before .lane-count .result) } = ap (λ (l : List Bool). record { live = l }) (c .before .before .before .before .before .before .before .before .before .before .before .before .new .ensures) in
-    let bound = c .before .before .before .before .before .before .before .before .before .before .first .ensures in
-    let size = c .before .before .before .before .before .before .before .before .before .before .before .size3 .ensures .0 in
+    let mask : c .before .before .before .before .before .before .before .before .before .before .new .result ≡ record { live = firstLanes (c .before .before .before .before .before .before .before .before .before .before .before .before .before .before .before .before .before .before .before .before .before .lane-count .result) } = ap (λ (l : List Bool). record { live = l }) (c .before .before .before .before .before .before .before .before .before .before .new .ensures) in
+    let bound = c .before .before .before .before .before .before .before .before .before .before .before .first .ensures in
+    let size = c .before .before .before .before .before .before .before .before .before .before .before .before .size3 .ensures .0 in
     let r = c .before .before .before .before .before .before .run-instrs in
     (r .ensures .0 ∙ rw (columns, zero, mask, bound, size, lanes, q .2, rule, v, n, first), r .ensures .1)
 
@@ -112,9 +112,9 @@ run-batch-spec =
     clear-requires
     add-load
     load-requires
-    new-requires
     size-requires-3
     first-requires
+    new-requires
     run-instrs-requires
     same-length
     same-length-2

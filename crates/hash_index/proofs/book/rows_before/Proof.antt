@@ -17,11 +17,14 @@ loop-holds : tie.Need-loop-holds Inv-loop μ-loop
 unfolding rowsBefore
 loop-holds c = (search needs, search needs, refl)
 
+cast-t7 : tie.Need-cast-t7 Inv-loop μ-loop
+cast-t7 c = search needs
+
 rows-of-requires : tie.Need-rows-of-requires Inv-loop μ-loop
 rows-of-requires c κs = search needs
 
 add-rows : tie.Need-add-rows Inv-loop μ-loop
-add-rows c = omega (arith, c .rows-of .ensures .1, c .before .before .loop .inv .1, c .before .loop-test .taken, c .before .before .before .before .good)
+add-rows c = omega (arith, c .rows-of .ensures .1, c .before .before .loop .inv .1, c .before .loop-test .taken, c .before .before .before .before .pre)
 
 add-t : tie.Need-add-t Inv-loop μ-loop
 add-t c = search needs
@@ -38,7 +41,7 @@ loop-again c =
 returns : tie.Need-returns Inv-loop μ-loop
 returns c =
     let l = c .before .loop in
-    let e : l .t ≡ c .before .before .before .args .table .0 = omega arith in
+    let e : l .t ≡ c .before .before .before .args .n = omega arith in
     rw e at (l .inv .2)
 
 pub rows-before-spec : {M : Type 1} → statement M
@@ -48,6 +51,7 @@ rows-before-spec =
     Inv-loop
     μ-loop
     loop-holds
+    cast-t7
     rows-of-requires
     add-rows
     add-t

@@ -4,8 +4,8 @@ use Rattle.predicted.specs.HomeLaws.{home-below}
 use Rattle.predicted.specs.RightLaws.{get-below}
 use Rattle.predict.specs.Predict.{gotten}
 use borrow.Author.Needs.{needs}
-use Rattle.predict.proofs.get_or_insert.Statement.{statement}
-use Rattle.predict.proofs.get_or_insert.Tie as tie
+use Rattle.predict.proofs.PredictedVals.get_or_insert_with.Statement.{statement}
+use Rattle.predict.proofs.PredictedVals.get_or_insert_with.Tie as tie
 
 get-requires : tie.Need-get-requires
 get-requires c κs = search needs
@@ -59,8 +59,8 @@ returns-3 : tie.Need-returns-3
 unfolding gotten
 returns-3 c = (rw (← c .before .before .before .get .ensures .0, c .before .enum-told2 .given .1, c .stop .ensures), rw (c .stop .ensures) (c .before .before .before .before .before .before .before .before .before .before .before .before .pre .3 .used))
 
-pub get-or-insert-spec : {M : Type 1} → statement M
-get-or-insert-spec =
+pub get-or-insert-with-spec : {M : Type 1} → statement M
+get-or-insert-with-spec =
     tie.close
     (tie.spec
     get-requires

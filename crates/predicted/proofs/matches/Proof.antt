@@ -1,8 +1,8 @@
 use borrow.Author.Tests.{le-leb, lt-leb, eq-eqb, ne-eqb}
 use Rattle.predicted.specs.Index.{answers}
 use borrow.Author.Needs.{needs}
-use Rattle.predicted.proofs.stands.Statement.{statement}
-use Rattle.predicted.proofs.stands.Tie as tie
+use Rattle.predicted.proofs.matches.Statement.{statement}
+use Rattle.predicted.proofs.matches.Tie as tie
 
 add-if1 : tie.Need-add-if1
 add-if1 c = search needs
@@ -34,8 +34,8 @@ returns-3 : tie.Need-returns-3
 unfolding answers
 returns-3 c = rw (le-leb _ _ (c .before .before .before .before .if1 .left), eq-eqb _ _ (c .before .if2 .left)) (c .same-words .ensures)
 
-pub stands-spec : {M : Type 1} → statement M
-stands-spec =
+pub matches-spec : {M : Type 1} → statement M
+matches-spec =
     tie.close
     (tie.spec
     add-if1

@@ -4,8 +4,8 @@ use mathlib.Core.Path.{sym, ap, _∙_}
 use Rattle.counter.specs.Counter.{drawnOf}
 use Rattle.build.specs.Build.{appended, handed}
 use borrow.Author.Needs.{needs}
-use Rattle.build.proofs.hand_out.Statement.{statement}
-use Rattle.build.proofs.hand_out.Tie as tie
+use Rattle.build.proofs.inc_counter.Statement.{statement}
+use Rattle.build.proofs.inc_counter.Tie as tie
 
 inc-requires : tie.Need-inc-requires
 inc-requires c κs = search needs
@@ -34,6 +34,6 @@ returns-2 c =
     let d = sym (ap drawnOf (c .enum-told .given .1)) ∙ h .drawn in
     rw (← d)
 
-pub hand-out-spec : {M : Type 1} → statement M
-hand-out-spec =
+pub inc-counter-spec : {M : Type 1} → statement M
+inc-counter-spec =
     tie.close (tie.spec inc-requires enum-known-drawn append-requires enum-told returns returns-2)
