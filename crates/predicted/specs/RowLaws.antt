@@ -2,7 +2,7 @@
 use Prim.Native.Nat.{ℕ, _+_, _<_, _≤_}
 use mathlib.Core.Path.{_≡_, refl, sym, ap, _∙_}
 use mathlib.Core.Option.{Option, some}
-use mathlib.Core.List.{List, []}
+use mathlib.Core.List.{List, [], _∷_}
 use native.Mathlib.Omega.{arith}
 use lib.ListN.{length, getElem?, length-take, drop}
 use Rattle.model.specs.Basics.{found, first}
@@ -45,6 +45,12 @@ row-short home w log ix of key = either-way (foundRow w (of .info) key) (slotOf 
     either-way Nothing (Free s) = omega arith
     either-way Nothing Full = omega arith
 
+-- an empty index finds no predicted row
+pub none-sought : (home : ℕ → List ℕ → ℕ) (ix log : List ℕ) (t : ℕ) (key : List ℕ) (k n : ℕ) → length ix ≡ 0 → predictedPart log n (slotOf home ix log t key k) ≡ []
+unfolding slotOf probed
+none-sought home [] log t key k n e = refl
+none-sought home (x ∷ ix) log t key k n e = absurd (omega arith)
+
 module _ (home : ℕ → List ℕ → ℕ) (w : List ℕ) (t : TableId) (known : t .0 < tableCount w) (key : List ℕ) where
   abbrev table : Table
   table = tableAt (tables w) (t .0)
@@ -64,7 +70,7 @@ module _ (home : ℕ → List ℕ → ℕ) (w : List ℕ) (t : TableId) (known :
       by (At p) = refl
       by Nothing = refl
 
-  -- an empty index finds no predicted row
+  -- so all that it finds is committed
   pub row-committed : (log : List ℕ) → rowOf home w log [] (soughtIn w t) key ≡ rowAmong table (t .0) Key []
   unfolding rowOf slotOf probed
   row-committed log = committed-is []

@@ -34,6 +34,10 @@ fn in_log<'a>(log: &'a [u32], index: &[u32], of: Sought, key: &[u32; 16]) -> &'a
     requires { ⌜ of .info .keys ≤ 16 ⌝ }
     ensures { λ r. ⌜ now r ≡ predictedPart (now (log .entry)) (of .info .width) (slotOf homeOf (now (index .entry)) (now (log .entry)) (of .table .0) (now (key .entry)) (of .info .keys)) ⌝ }
 {
+    // No home is worked out for an index that has no rows.
+    if index.len() == 0 {
+        return &log[..0];
+    }
     match crate::get(index, log, of.table, key, of.info.keys) {
         Slot::Hit(p) => words::part(log, p + 2, of.info.width),
         Slot::Free(_) => &log[..0],
