@@ -8,23 +8,11 @@ use borrow.Author.Needs.{needs}
 use Rattle.action.proofs.act.Statement.{statement}
 use Rattle.action.proofs.act.Tie as tie
 
-enum-known-i : tie.Need-enum-known-i
-enum-known-i c = search needs
-
 lookup-or-insert-default-requires : tie.Need-lookup-or-insert-default-requires
 lookup-or-insert-default-requires c κs =
     let p = c .before .before .before .before .before .before .before .before .before .before .before .before .pre in
     let s = rw (c .before .before .before .before .i .given .1) at (p .2) in
     (p .0, p .1, s .0, s .1, s .2, p .3, p .4)
-
-enum-known-i-2 : tie.Need-enum-known-i-2
-enum-known-i-2 c = search needs
-
-row-ask-requires : tie.Need-row-ask-requires
-row-ask-requires c κs = search needs
-
-entry-ask-requires : tie.Need-entry-ask-requires
-entry-ask-requires c κs = search needs
 
 fill-or-else-requires : tie.Need-fill-or-else-requires
 fill-or-else-requires c κs =
@@ -34,24 +22,12 @@ fill-or-else-requires c κs =
     let e = entry-fits (now (a .words)) (now (a .committed)) _ _ (c .before .entry-ask .ensures) in
     rw (c .before .before .row-ask .ensures) ((searchable (now (a .words)) (now (a .committed)) (p .0) (p .1) _ (s .0), s .1), e, p .4)
 
-enum-known-i-3 : tie.Need-enum-known-i-3
-enum-known-i-3 c = search needs
-
-row-ask-requires-2 : tie.Need-row-ask-requires-2
-row-ask-requires-2 c κs = search needs
-
 fill-requires : tie.Need-fill-requires
 fill-requires c κs =
     let a = c .before .before .before .before .before .before .before .before .before .before .before .args in
     let p = c .before .before .before .before .before .before .before .before .before .before .before .pre in
     let s = rw (c .before .before .before .i3 .given .1) at (p .2) in
     rw (c .before .row-ask2 .ensures) ((searchable (now (a .words)) (now (a .committed)) (p .0) (p .1) _ (s .0), s .1), p .4)
-
-enum-known-i-4 : tie.Need-enum-known-i-4
-enum-known-i-4 c = search needs
-
-row-ask-requires-3 : tie.Need-row-ask-requires-3
-row-ask-requires-3 c κs = search needs
 
 fill-or-else-requires-2 : tie.Need-fill-or-else-requires-2
 fill-or-else-requires-2 c κs =
@@ -60,20 +36,11 @@ fill-or-else-requires-2 c κs =
     let s = rw (c .before .before .before .i4 .given .1) at (p .2) in
     rw (c .before .row-ask3 .ensures) ((searchable (now (a .words)) (now (a .committed)) (p .0) (p .1) _ (s .0), s .1), s .2, p .4)
 
-enum-known-i-5 : tie.Need-enum-known-i-5
-enum-known-i-5 c = search needs
-
 stage-lanes-requires : tie.Need-stage-lanes-requires
 stage-lanes-requires c κs =
     let p = c .before .before .before .before .before .before .before .before .before .before .pre in
     let s = rw (c .before .before .i5 .given .1) at (p .2) in
     (s .1, p .3 .used)
-
-enum-known-i-6 : tie.Need-enum-known-i-6
-enum-known-i-6 c = search needs
-
-retain-requires : tie.Need-retain-requires
-retain-requires c κs = search needs
 
 stage-lanes-requires-2 : tie.Need-stage-lanes-requires-2
 stage-lanes-requires-2 c κs =
@@ -81,17 +48,11 @@ stage-lanes-requires-2 c κs =
     let s = rw (c .before .before .before .i6 .given .1) at (p .2) in
     (s .1, p .3 .used)
 
-enum-known-i-7 : tie.Need-enum-known-i-7
-enum-known-i-7 c = search needs
-
 stage-lanes-requires-3 : tie.Need-stage-lanes-requires-3
 stage-lanes-requires-3 c κs =
     let p = c .before .before .before .before .before .before .before .before .before .before .pre in
     let s = rw (c .before .before .i7 .given .1) at (p .2) in
     (s .1, p .3 .used)
-
-enum-known-i-8 : tie.Need-enum-known-i-8
-enum-known-i-8 c = search needs
 
 fill-requires-2 : tie.Need-fill-requires-2
 fill-requires-2 c κs =
@@ -99,81 +60,30 @@ fill-requires-2 c κs =
     let s = rw (c .before .before .i8 .given .1) at (p .2) in
     (s .0, p .4)
 
-enum-known-i-9 : tie.Need-enum-known-i-9
-enum-known-i-9 c = search needs
-
 fill-or-else-requires-3 : tie.Need-fill-or-else-requires-3
 fill-or-else-requires-3 c κs =
     let p = c .before .before .before .before .before .before .before .before .before .before .pre in
     let s = rw (c .before .before .i9 .given .1) at (p .2) in
     (s .0, s .1, p .4)
 
-enum-known-i-10 : tie.Need-enum-known-i-10
-enum-known-i-10 c = search needs
-
-retain-requires-2 : tie.Need-retain-requires-2
-retain-requires-2 c κs = search needs
-
-enum-known-i-11 : tie.Need-enum-known-i-11
-enum-known-i-11 c = search needs
-
-retain-requires-3 : tie.Need-retain-requires-3
-retain-requires-3 c κs = search needs
-
-enum-known-i-12 : tie.Need-enum-known-i-12
-enum-known-i-12 c = search needs
-
 retain-requires-4 : tie.Need-retain-requires-4
 retain-requires-4 c κs = rw (c .before .i12 .given .1) at (c .before .before .before .before .before .before .before .before .before .pre .2)
-
-enum-known-i-13 : tie.Need-enum-known-i-13
-enum-known-i-13 c = search needs
-
-new-requires : tie.Need-new-requires
-new-requires c κs = search needs
-
-read-counter-requires : tie.Need-read-counter-requires
-read-counter-requires c κs = search needs
-
-fill-requires-3 : tie.Need-fill-requires-3
-fill-requires-3 c κs = search needs
-
-same-length : tie.Need-same-length
-same-length c = search needs
-
-same-length-2 : tie.Need-same-length-2
-same-length-2 c = search needs
-
-same-length-3 : tie.Need-same-length-3
-same-length-3 c = search needs
 
 returns : tie.Need-returns
 unfolding acted
 returns c = let e = c .before .before .before .before .before .before .lookup-or-insert-default .ensures in (rw (c .before .before .before .before .before .before .before .before .before .before .before .i .given .1) (e .0), e .1)
 
-same-length-4 : tie.Need-same-length-4
-same-length-4 c = search needs
-
 returns-2 : tie.Need-returns-2
 unfolding acted
 returns-2 c = let e = c .before .before .fill-or-else .ensures in (rw (c .before .before .before .before .before .before .before .i2 .given .1, e .0, e .1, c .before .before .before .before .before .row-ask .ensures, c .before .before .before .before .entry-ask .ensures), c .before .before .before .before .before .before .before .before .before .before .before .before .before .before .before .pre .3 .used)
-
-same-length-5 : tie.Need-same-length-5
-same-length-5 c = search needs
 
 returns-3 : tie.Need-returns-3
 unfolding acted
 returns-3 c = let e = c .before .before .fill .ensures in (rw (c .before .before .before .before .before .before .i3 .given .1, e .0, e .1, c .before .before .before .before .row-ask2 .ensures), c .before .before .before .before .before .before .before .before .before .before .before .before .before .before .pre .3 .used)
 
-same-length-6 : tie.Need-same-length-6
-same-length-6 c = search needs
-
 returns-4 : tie.Need-returns-4
 unfolding acted
 returns-4 c = let e = c .before .before .fill-or-else2 .ensures in (rw (c .before .before .before .before .before .before .i4 .given .1, e .0, e .1, c .before .before .before .before .row-ask3 .ensures), c .before .before .before .before .before .before .before .before .before .before .before .before .before .before .pre .3 .used)
-
-same-length-7 : tie.Need-same-length-7
-same-length-7 c = search needs
 
 returns-5 : tie.Need-returns-5
 unfolding acted
@@ -183,9 +93,6 @@ returns-5 c =
     let l : Lanes = record { live = a .mask .live; state = a .state; log = now (a .log); index = now (a .index); out = now (a .out) } in
     (rw (c .before .before .before .before .before .i5 .given .1) (ap (λ (g : Logged). withLog g l) (e .0)), e .1)
 
-same-length-8 : tie.Need-same-length-8
-same-length-8 c = search needs
-
 returns-6 : tie.Need-returns-6
 unfolding acted
 returns-6 c =
@@ -193,9 +100,6 @@ returns-6 c =
     let e = c .before .before .stage-lanes2 .ensures in
     let l : Lanes = record { live = a .mask .live; state = a .state; log = now (a .log); index = now (a .index); out = now (a .out) } in
     (rw (c .before .before .before .before .before .before .i6 .given .1, ← c .before .before .before .before .retain .ensures) (ap (λ (g : Logged). withLog g l) (e .0)), e .1)
-
-same-length-9 : tie.Need-same-length-9
-same-length-9 c = search needs
 
 returns-7 : tie.Need-returns-7
 unfolding acted
@@ -205,15 +109,9 @@ returns-7 c =
     let l : Lanes = record { live = a .mask .live; state = a .state; log = now (a .log); index = now (a .index); out = now (a .out) } in
     (rw (c .before .before .before .before .before .i7 .given .1) (ap (λ (g : Logged). withLog g l) (e .0)), e .1)
 
-same-length-10 : tie.Need-same-length-10
-same-length-10 c = search needs
-
 returns-8 : tie.Need-returns-8
 unfolding acted
 returns-8 c = let e = c .before .before .fill2 .ensures in (rw (c .before .before .before .before .before .i8 .given .1, e .0, e .1), c .before .before .before .before .before .before .before .before .before .before .before .before .before .pre .3 .used)
-
-same-length-11 : tie.Need-same-length-11
-same-length-11 c = search needs
 
 returns-9 : tie.Need-returns-9
 unfolding acted
@@ -231,9 +129,6 @@ returns-12 : tie.Need-returns-12
 unfolding acted
 returns-12 c = (rw (c .before .before .i12 .given .1, c .retain4 .ensures), c .before .before .before .before .before .before .before .before .before .before .pre .3 .used)
 
-same-length-12 : tie.Need-same-length-12
-same-length-12 c = search needs
-
 returns-13 : tie.Need-returns-13
 unfolding acted
 returns-13 c = (rw (c .before .before .before .before .before .before .before .i13 .given .1, c .before .before .fill3 .ensures .1, c .before .before .before .before .read-counter .ensures, c .before .before .before .before .before .new .ensures), c .before .before .before .before .before .before .before .before .before .before .before .before .before .before .before .pre .3 .used)
@@ -242,61 +137,61 @@ pub act-spec : {M : Type 1} → statement M
 act-spec =
     tie.close
     (tie.spec
-    enum-known-i
+    (λ c. search needs)
     lookup-or-insert-default-requires
-    enum-known-i-2
-    row-ask-requires
-    entry-ask-requires
+    (λ c. search needs)
+    (λ c κs. search needs)
+    (λ c κs. search needs)
     fill-or-else-requires
-    enum-known-i-3
-    row-ask-requires-2
+    (λ c. search needs)
+    (λ c κs. search needs)
     fill-requires
-    enum-known-i-4
-    row-ask-requires-3
+    (λ c. search needs)
+    (λ c κs. search needs)
     fill-or-else-requires-2
-    enum-known-i-5
+    (λ c. search needs)
     stage-lanes-requires
-    enum-known-i-6
-    retain-requires
+    (λ c. search needs)
+    (λ c κs. search needs)
     stage-lanes-requires-2
-    enum-known-i-7
+    (λ c. search needs)
     stage-lanes-requires-3
-    enum-known-i-8
+    (λ c. search needs)
     fill-requires-2
-    enum-known-i-9
+    (λ c. search needs)
     fill-or-else-requires-3
-    enum-known-i-10
-    retain-requires-2
-    enum-known-i-11
-    retain-requires-3
-    enum-known-i-12
+    (λ c. search needs)
+    (λ c κs. search needs)
+    (λ c. search needs)
+    (λ c κs. search needs)
+    (λ c. search needs)
     retain-requires-4
-    enum-known-i-13
-    new-requires
-    read-counter-requires
-    fill-requires-3
-    same-length
-    same-length-2
-    same-length-3
+    (λ c. search needs)
+    (λ c κs. search needs)
+    (λ c κs. search needs)
+    (λ c κs. search needs)
+    (λ c. search needs)
+    (λ c. search needs)
+    (λ c. search needs)
     returns
-    same-length-4
+    (λ c. search needs)
     returns-2
-    same-length-5
+    (λ c. search needs)
     returns-3
-    same-length-6
+    (λ c. search needs)
     returns-4
-    same-length-7
+    (λ c. search needs)
     returns-5
-    same-length-8
+    (λ c. search needs)
     returns-6
-    same-length-9
+    (λ c. search needs)
     returns-7
-    same-length-10
+    (λ c. search needs)
     returns-8
-    same-length-11
+    (λ c. search needs)
     returns-9
     returns-10
     returns-11
     returns-12
-    same-length-12
+    (λ c. search needs)
     returns-13)

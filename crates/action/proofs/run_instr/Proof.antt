@@ -8,32 +8,11 @@ use borrow.Author.Needs.{needs}
 use Rattle.action.proofs.run_instr.Statement.{statement}
 use Rattle.action.proofs.run_instr.Tie as tie
 
-slice-aggregate-act : tie.Need-slice-aggregate-act
-slice-aggregate-act c = search needs
-
-act-requires : tie.Need-act-requires
-act-requires c κs = search needs
-
-dst-requires : tie.Need-dst-requires
-dst-requires c κs = search needs
-
-slice-aggregate-bind-dst : tie.Need-slice-aggregate-bind-dst
-slice-aggregate-bind-dst c = search needs
-
 bind-dst-requires : tie.Need-bind-dst-requires
 bind-dst-requires c κs =
     let a = c .before .before .before .before .before .before .before .before .before .before .before .before .before .before .before .before .before .before .before .before .before .before .args in
     let p = c .before .before .before .before .before .before .before .before .before .before .before .before .before .before .before .before .before .before .before .before .before .before .pre in
     (rw (c .before .before .dst .ensures) (binds-variable (now (a .words)) (a .i) (p .2)), p .4)
-
-same-length : tie.Need-same-length
-same-length c = search needs
-
-same-length-2 : tie.Need-same-length-2
-same-length-2 c = search needs
-
-same-length-3 : tie.Need-same-length-3
-same-length-3 c = search needs
 
 returns : tie.Need-returns
 unfolding ranInstr
@@ -48,12 +27,12 @@ pub run-instr-spec : {M : Type 1} → statement M
 run-instr-spec =
     tie.close
     (tie.spec
-    slice-aggregate-act
-    act-requires
-    dst-requires
-    slice-aggregate-bind-dst
+    (λ c. search needs)
+    (λ c κs. search needs)
+    (λ c κs. search needs)
+    (λ c. search needs)
     bind-dst-requires
-    same-length
-    same-length-2
-    same-length-3
+    (λ c. search needs)
+    (λ c. search needs)
+    (λ c. search needs)
     returns)

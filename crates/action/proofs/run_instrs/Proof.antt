@@ -46,18 +46,6 @@ first-of-requires c κs =
     let q = c .before .before .before .before .before .pre in
     omega (arith, q .2, rule-entry (now (a .words)) (q .0) (a .r) (q .3))
 
-add-word : tie.Need-add-word Inv-loop μ-loop
-add-word c = search needs
-
-word-requires : tie.Need-word-requires Inv-loop μ-loop
-word-requires c κs = search needs
-
-size-requires : tie.Need-size-requires Inv-loop μ-loop
-size-requires c κs = search needs
-
-add-p : tie.Need-add-p Inv-loop μ-loop
-add-p c = search needs
-
 loop-holds : tie.Need-loop-holds Inv-loop μ-loop
 loop-holds c =
     let a = c .before .before .before .before .before .before .before .before .args in
@@ -82,12 +70,6 @@ next-requires c κs =
     let x = here (now (a .words)) (a .r) (l .j) _ (l .p) (q .0) (q .3) (l .inv .0) (c .before .before .before .before .before .before .before .before .before .before .loop-test .taken) (l .inv .2) in
     small-here x
 
-add-j : tie.Need-add-j Inv-loop μ-loop
-add-j c = search needs
-
-loop-less : tie.Need-loop-less Inv-loop μ-loop
-loop-less c = search needs
-
 loop-again : tie.Need-loop-again Inv-loop μ-loop
 loop-again c =
     let a = c .before .before .before .before .before .before .before .before .before .before .before .before .before .before .before .before .before .before .before .before .before .args in
@@ -106,15 +88,6 @@ loop-again c =
       iter-more _ (l .j) _ _ _ (l .inv .7) (r .ensures .0 ∙ ap (λ (p : ℕ). ranNext (now (a .words)) p (record { batch = l .batch; bindings = l .bindings; log = l .log; index = l .index })) (l .inv .2)),
     )
 
-same-length : tie.Need-same-length Inv-loop μ-loop
-same-length c = search needs
-
-same-length-2 : tie.Need-same-length-2 Inv-loop μ-loop
-same-length-2 c = search needs
-
-same-length-3 : tie.Need-same-length-3 Inv-loop μ-loop
-same-length-3 c = search needs
-
 returns : tie.Need-returns Inv-loop μ-loop
 unfolding ranInstrs
 returns c =
@@ -131,17 +104,17 @@ run-instrs-spec =
     μ-loop
     add-first-of
     first-of-requires
-    add-word
-    word-requires
-    size-requires
-    add-p
+    (λ c. search needs)
+    (λ c κs. search needs)
+    (λ c κs. search needs)
+    (λ c. search needs)
     loop-holds
     run-next-requires
     next-requires
-    add-j
-    loop-less
+    (λ c. search needs)
+    (λ c. search needs)
     loop-again
-    same-length
-    same-length-2
-    same-length-3
+    (λ c. search needs)
+    (λ c. search needs)
+    (λ c. search needs)
     returns)

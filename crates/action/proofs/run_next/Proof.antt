@@ -7,26 +7,8 @@ use borrow.Author.Needs.{needs}
 use Rattle.action.proofs.run_next.Statement.{statement}
 use Rattle.action.proofs.run_next.Tie as tie
 
-going-requires : tie.Need-going-requires
-going-requires c κs = search needs
-
-is-empty-requires : tie.Need-is-empty-requires
-is-empty-requires c κs = search needs
-
-instr-at-requires : tie.Need-instr-at-requires
-instr-at-requires c κs = search needs
-
 run-instr-requires : tie.Need-run-instr-requires
 run-instr-requires c κs = let p = c .before .before .before .before .before .before .before .before .before .before .before .before .before .before .pre in (p .0, p .1, rw (c .before .before .before .instr-at .ensures) (p .3), p .4, p .5)
-
-same-length : tie.Need-same-length
-same-length c = search needs
-
-same-length-2 : tie.Need-same-length-2
-same-length-2 c = search needs
-
-same-length-3 : tie.Need-same-length-3
-same-length-3 c = search needs
 
 returns : tie.Need-returns
 unfolding ranNext
@@ -47,12 +29,12 @@ pub run-next-spec : {M : Type 1} → statement M
 run-next-spec =
     tie.close
     (tie.spec
-    going-requires
-    is-empty-requires
-    instr-at-requires
+    (λ c κs. search needs)
+    (λ c κs. search needs)
+    (λ c κs. search needs)
     run-instr-requires
-    same-length
-    same-length-2
-    same-length-3
+    (λ c. search needs)
+    (λ c. search needs)
+    (λ c. search needs)
     returns
     returns-2)

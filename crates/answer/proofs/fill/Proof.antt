@@ -31,35 +31,11 @@ after-entries c = c .write-entries .kept .1 .1 .1 .1 .1 .1 .1 .0 ∙ simp length
 after-tables : (c : tie.After-write-tables) → length (c .write-tables .last .1 .1 .1 .1 .1 .0) ≡ length (now (c .before .before .before .before .before .before .before .before .before .before .before .before .before .before .before .before .before .before .before .args .answer))
 after-tables c = c .write-tables .kept .1 .1 .1 .1 .1 .0 ∙ after-entries (c .before .before .before .before)
 
-add-n : tie.Need-add-n
-add-n c = search needs
-
-add-n-2 : tie.Need-add-n-2
-add-n-2 c = search needs
-
-add-n-3 : tie.Need-add-n-3
-add-n-3 c = search needs
-
-mul-first : tie.Need-mul-first
-mul-first c = search needs
-
-add-first : tie.Need-add-first
-add-first c = search needs
-
-add-length-of : tie.Need-add-length-of
-add-length-of c = search needs
-
-length-of-requires : tie.Need-length-of-requires
-length-of-requires c κs = search needs
-
 add-shift : tie.Need-add-shift
 add-shift c = omega (arith, whole (c .before), c .before .before .before .before .before .before .before .before .before .before .good)
 
 shift-requires : tie.Need-shift-requires
 shift-requires c κs = omega (arith, whole (c .before))
-
-cast-answer : tie.Need-cast-answer
-cast-answer c = search needs
 
 slice-write-answer : tie.Need-slice-write-answer
 slice-write-answer c = omega (arith, c .before .before .shift .kept .0, whole (c .before .before .before .before))
@@ -109,16 +85,16 @@ pub fill-spec : {M : Type 1} → statement M
 fill-spec =
     tie.close
     (tie.spec
-    add-n
-    add-n-2
-    add-n-3
-    mul-first
-    add-first
-    add-length-of
-    length-of-requires
+    (λ c. search needs)
+    (λ c. search needs)
+    (λ c. search needs)
+    (λ c. search needs)
+    (λ c. search needs)
+    (λ c. search needs)
+    (λ c κs. search needs)
     add-shift
     shift-requires
-    cast-answer
+    (λ c. search needs)
     slice-write-answer
     write-entries-requires
     write-tables-requires

@@ -19,24 +19,6 @@ abbrev μ-loop : tie.MeasureT-loop
 loop-holds : tie.Need-loop-holds Inv-loop μ-loop
 loop-holds c = (search needs, search needs, filled-none _ _)
 
-add-word : tie.Need-add-word Inv-loop μ-loop
-add-word c = search needs
-
-word-requires : tie.Need-word-requires Inv-loop μ-loop
-word-requires c κs = search needs
-
-mul-vals : tie.Need-mul-vals Inv-loop μ-loop
-mul-vals c = search needs
-
-array-write-vals : tie.Need-array-write-vals Inv-loop μ-loop
-array-write-vals c = search needs
-
-add-i : tie.Need-add-i Inv-loop μ-loop
-add-i c = search needs
-
-loop-less : tie.Need-loop-less Inv-loop μ-loop
-loop-less c = search needs
-
 loop-again : tie.Need-loop-again Inv-loop μ-loop
 loop-again c =
     let l = c .before .before .loop in
@@ -59,11 +41,11 @@ words-at-spec =
     Inv-loop
     μ-loop
     loop-holds
-    add-word
-    word-requires
-    mul-vals
-    array-write-vals
-    add-i
-    loop-less
+    (λ c. search needs)
+    (λ c κs. search needs)
+    (λ c. search needs)
+    (λ c. search needs)
+    (λ c. search needs)
+    (λ c. search needs)
     loop-again
     returns)

@@ -19,27 +19,6 @@ abbrev μ-loop : tie.MeasureT-loop
 loop-holds : tie.Need-loop-holds Inv-loop μ-loop
 loop-holds c = (search needs, search needs, filled-none _ _)
 
-mul-value : tie.Need-mul-value Inv-loop μ-loop
-mul-value c = search needs
-
-add-value : tie.Need-add-value Inv-loop μ-loop
-add-value c = search needs
-
-value-requires : tie.Need-value-requires Inv-loop μ-loop
-value-requires c κs = search needs
-
-mul-vals : tie.Need-mul-vals Inv-loop μ-loop
-mul-vals c = search needs
-
-array-write-vals : tie.Need-array-write-vals Inv-loop μ-loop
-array-write-vals c = search needs
-
-add-i : tie.Need-add-i Inv-loop μ-loop
-add-i c = search needs
-
-loop-less : tie.Need-loop-less Inv-loop μ-loop
-loop-less c = search needs
-
 loop-again : tie.Need-loop-again Inv-loop μ-loop
 loop-again c =
     let l = c .before .before .loop in
@@ -62,12 +41,12 @@ fetch-spec =
     Inv-loop
     μ-loop
     loop-holds
-    mul-value
-    add-value
-    value-requires
-    mul-vals
-    array-write-vals
-    add-i
-    loop-less
+    (λ c. search needs)
+    (λ c. search needs)
+    (λ c κs. search needs)
+    (λ c. search needs)
+    (λ c. search needs)
+    (λ c. search needs)
+    (λ c. search needs)
     loop-again
     returns)

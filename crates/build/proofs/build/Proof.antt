@@ -19,21 +19,6 @@ abbrev μ-loop : tie.MeasureT-loop
 loop-holds : tie.Need-loop-holds Inv-loop μ-loop
 loop-holds c = (search needs, refl)
 
-mul-write-next : tie.Need-mul-write-next Inv-loop μ-loop
-mul-write-next c = search needs
-
-add-write-next : tie.Need-add-write-next Inv-loop μ-loop
-add-write-next c = search needs
-
-write-next-requires : tie.Need-write-next-requires Inv-loop μ-loop
-write-next-requires c κs = search needs
-
-add-k : tie.Need-add-k Inv-loop μ-loop
-add-k c = search needs
-
-loop-less : tie.Need-loop-less Inv-loop μ-loop
-loop-less c = search needs
-
 loop-again : tie.Need-loop-again Inv-loop μ-loop
 loop-again c =
     let l = c .before .before .loop in
@@ -55,10 +40,10 @@ build-spec =
     Inv-loop
     μ-loop
     loop-holds
-    mul-write-next
-    add-write-next
-    write-next-requires
-    add-k
-    loop-less
+    (λ c. search needs)
+    (λ c. search needs)
+    (λ c κs. search needs)
+    (λ c. search needs)
+    (λ c. search needs)
     loop-again
     returns)

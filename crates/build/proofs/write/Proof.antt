@@ -3,30 +3,6 @@ use borrow.Author.Needs.{needs}
 use Rattle.build.proofs.write.Statement.{statement}
 use Rattle.build.proofs.write.Tie as tie
 
-enum-known-v : tie.Need-enum-known-v
-enum-known-v c = search needs
-
-value-requires : tie.Need-value-requires
-value-requires c κs = search needs
-
-append-requires : tie.Need-append-requires
-append-requires c κs = search needs
-
-enum-known-v-2 : tie.Need-enum-known-v-2
-enum-known-v-2 c = search needs
-
-inc-counter-requires : tie.Need-inc-counter-requires
-inc-counter-requires c κs = search needs
-
-enum-known-v-3 : tie.Need-enum-known-v-3
-enum-known-v-3 c = search needs
-
-current-requires : tie.Need-current-requires
-current-requires c κs = search needs
-
-append-requires-2 : tie.Need-append-requires-2
-append-requires-2 c κs = search needs
-
 returns : tie.Need-returns
 unfolding written
 returns c = rw (c .before .before .before .v .given .1, ← c .before .value .ensures) (c .append .ensures)
@@ -43,14 +19,14 @@ pub write-spec : {M : Type 1} → statement M
 write-spec =
     tie.close
     (tie.spec
-    enum-known-v
-    value-requires
-    append-requires
-    enum-known-v-2
-    inc-counter-requires
-    enum-known-v-3
-    current-requires
-    append-requires-2
+    (λ c. search needs)
+    (λ c κs. search needs)
+    (λ c κs. search needs)
+    (λ c. search needs)
+    (λ c κs. search needs)
+    (λ c. search needs)
+    (λ c κs. search needs)
+    (λ c κs. search needs)
     returns
     returns-2
     returns-3)

@@ -24,9 +24,6 @@ Inv-loop words tables log gone₀ rows₀ removes done₀ t₀ gone rows done t 
 abbrev μ-loop : tie.MeasureT-loop
 μ-loop words tables log gone₀ rows₀ removes done₀ t₀ gone rows done t = tables - t
 
-may-remove-requires : tie.Need-may-remove-requires Inv-loop μ-loop
-may-remove-requires c κs = search needs
-
 loop-holds : tie.Need-loop-holds Inv-loop μ-loop
 loop-holds c = (search needs, search needs, refl, omega arith, refl, refl)
 
@@ -36,12 +33,6 @@ commit-table-requires c κs =
     let a = c .before .before .before .before .before .before .before .before .before .args in
     let pre = c .before .before .before .before .before .before .before .before .before .pre in
     (omega arith, pre .4 (l .t) (c .before .before .loop-test .taken), omega (arith, l .inv .1, pre .2), pre .1, omega (arith, l .inv .2, l .inv .3), omega (arith, pre .3, l .inv .2), λ e. or-right-false (leb (a .tables) 1) (anyRemoval (now (a .words)) (now (a .log))) (sym (c .before .before .before .before .may-remove .ensures) ∙ e))
-
-add-t : tie.Need-add-t Inv-loop μ-loop
-add-t c = search needs
-
-loop-less : tie.Need-loop-less Inv-loop μ-loop
-loop-less c = search needs
 
 loop-again : tie.Need-loop-again Inv-loop μ-loop
 loop-again c =
@@ -57,12 +48,6 @@ loop-again c =
       iter-more (goneAfter (now (a .words)) (now (a .log))) (l .t) (now (a .gone)) (l .gone) _ (l .inv .5) (c .before .before .before .before .commit-table .ensures .1),
     )
 
-same-length : tie.Need-same-length Inv-loop μ-loop
-same-length c = search needs
-
-same-length-2 : tie.Need-same-length-2 Inv-loop μ-loop
-same-length-2 c = search needs
-
 returns : tie.Need-returns Inv-loop μ-loop
 unfolding committedRows
 returns c =
@@ -76,13 +61,13 @@ commit-all-spec =
     (tie.spec
     Inv-loop
     μ-loop
-    may-remove-requires
+    (λ c κs. search needs)
     loop-holds
     (λ c. search needs)
     commit-table-requires
-    add-t
-    loop-less
+    (λ c. search needs)
+    (λ c. search needs)
     loop-again
-    same-length
-    same-length-2
+    (λ c. search needs)
+    (λ c. search needs)
     returns)

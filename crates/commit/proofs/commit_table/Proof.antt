@@ -25,9 +25,6 @@ all-is c =
     let o = c .before .before .before .before .before .before .keep in
     c .insert-rows .ensures ∙ ap (λ (i : TableInfo). inserted (now (a .words)) (now (a .log)) (a .t .0) i (record { words = o .last .1 .1 .1 .1 .1 .0; part = o .result })) (c .before .before .before .before .before .before .before .before .before .info-of .ensures) ∙ ap (inserted (now (a .words)) (now (a .log)) (a .t .0) (infoOf (now (a .words)) (a .t .0))) (old-is (c .before .before .before .before .before .before))
 
-info-of-requires : tie.Need-info-of-requires
-info-of-requires c κs = search needs
-
 cast-done : tie.Need-cast-done
 cast-done c = omega (arith, c .before .before .before .before .before .pre .4, c .before .before .before .before .before .pre .5)
 
@@ -57,18 +54,6 @@ cast-done-2 c =
     let k = table-keeps (now (a .words)) (now (a .log)) (a .t .0) (record { words = now (a .rows); result = a .t6 }) (pre .1) (pre .4) in
     omega (arith, few-rows (pre .1 .some) (k .0), k .1, ap (λ (s : Rows). s .part .count) (all-is (c .before .before .before .before)), pre .5)
 
-mul-done : tie.Need-mul-done
-mul-done c = search needs
-
-element-write-done : tie.Need-element-write-done
-element-write-done c = search needs
-
-same-length : tie.Need-same-length
-same-length c = search needs
-
-same-length-2 : tie.Need-same-length-2
-same-length-2 c = search needs
-
 returns : tie.Need-returns
 unfolding tableCommitted
 returns c =
@@ -79,14 +64,14 @@ pub commit-table-spec : {M : Type 1} → statement M
 commit-table-spec =
     tie.close
     (tie.spec
-    info-of-requires
+    (λ c κs. search needs)
     cast-done
     keep-requires
     insert-rows-requires
     (λ c κs. search needs)
     cast-done-2
-    mul-done
-    element-write-done
-    same-length
-    same-length-2
+    (λ c. search needs)
+    (λ c. search needs)
+    (λ c. search needs)
+    (λ c. search needs)
     returns)

@@ -27,59 +27,20 @@ Inv-loop words n counts₀ last₀ end₀ i₀ counts last end i = (i ≤ n) × 
 abbrev μ-loop : tie.MeasureT-loop
 μ-loop words n counts₀ last₀ end₀ i₀ counts last end i = n - i
 
-shared-slice-read-size : tie.Need-shared-slice-read-size Inv-loop μ-loop
-shared-slice-read-size c = search needs
-
-size-requires : tie.Need-size-requires Inv-loop μ-loop
-size-requires c κs = search needs
-
 returns : tie.Need-returns Inv-loop μ-loop
 returns c = refuse-count (now (c .before .before .before .before .args .words)) (count-0 (now (c .before .before .before .before .args .words)) (omega arith))
 
 returns-2 : tie.Need-returns-2 Inv-loop μ-loop
 returns-2 c = refuse-count (now (c .before .before .before .before .before .args .words)) (count-129 (now (c .before .before .before .before .before .args .words)) (omega arith) (omega arith))
 
-mul-if3 : tie.Need-mul-if3 Inv-loop μ-loop
-mul-if3 c = search needs
-
-add-if3 : tie.Need-add-if3 Inv-loop μ-loop
-add-if3 c = search needs
-
 returns-3 : tie.Need-returns-3 Inv-loop μ-loop
 returns-3 c = refuse-count (now (c .before .before .before .before .before .before .args .words)) (count-past (now (c .before .before .before .before .before .before .args .words)) (omega arith) (omega arith) (omega arith))
-
-mul-end : tie.Need-mul-end Inv-loop μ-loop
-mul-end c = search needs
-
-add-end : tie.Need-add-end Inv-loop μ-loop
-add-end c = search needs
 
 loop-holds : tie.Need-loop-holds Inv-loop μ-loop
 loop-holds c = (search needs, search needs, search needs, no-counts (now (c .before .before .before .before .before .before .args .words)), λ j h. absurd (omega arith), refl)
 
-kind-of-requires : tie.Need-kind-of-requires Inv-loop μ-loop
-kind-of-requires c κs = search needs
-
-group-requires : tie.Need-group-requires Inv-loop μ-loop
-group-requires c κs = search needs
-
-first-of-requires : tie.Need-first-of-requires Inv-loop μ-loop
-first-of-requires c κs = search needs
-
-size-requires-2 : tie.Need-size-requires-2 Inv-loop μ-loop
-size-requires-2 c κs = search needs
-
-mul-seen : tie.Need-mul-seen Inv-loop μ-loop
-mul-seen c = search needs
-
-array-read-seen : tie.Need-array-read-seen Inv-loop μ-loop
-array-read-seen c = search needs
-
 add-seen : tie.Need-add-seen Inv-loop μ-loop
 add-seen c = let l = c .before .before .before .before .before .loop in omega (arith, small-count (now (c .before .before .before .before .before .before .before .before .before .before .before .before .args .words)) (l .counts) (l .i) (c .size2 .result) (l .inv .3) (omega arith) (omega arith))
-
-fits-requires : tie.Need-fits-requires Inv-loop μ-loop
-fits-requires c κs = search needs
 
 -- the entry's test, as the code has it before the branch
 fit : (c : lts.After-fits2 (size-reads.Asked, size-reads.Learnt, kind-of-reads.Asked, kind-of-reads.Learnt, group-reads.Asked, group-reads.Learnt, first-of-reads.Asked, first-of-reads.Learnt, fits-reads.Asked, fits-reads.Learnt, end-of-reads.Asked, end-of-reads.Learnt) reads.Pre reads.Post Inv-loop μ-loop) → c .fits2 .result ≡ entryFits (now (c .before .before .before .before .before .before .before .before .before .before .before .before .before .args .words)) (c .before .before .before .before .before .before .loop .i)
@@ -93,21 +54,6 @@ returns-4 : tie.Need-returns-4 Inv-loop μ-loop
 returns-4 c =
     let l = c .before .before .before .before .before .before .before .loop in
     refuse-entry (now (c .before .before .before .before .before .before .before .before .before .before .before .before .before .before .args .words)) (count-true (now (c .before .before .before .before .before .before .before .before .before .before .before .before .before .before .args .words)) (omega arith) (omega arith) (omega arith)) (l .i) (omega arith) (l .inv .4) (sym (fit (c .before)) ∙ not-true _ (c .if4 .taken))
-
-mul-counts : tie.Need-mul-counts Inv-loop μ-loop
-mul-counts c = search needs
-
-array-write-counts : tie.Need-array-write-counts Inv-loop μ-loop
-array-write-counts c = search needs
-
-end-of-requires : tie.Need-end-of-requires Inv-loop μ-loop
-end-of-requires c κs = search needs
-
-add-i : tie.Need-add-i Inv-loop μ-loop
-add-i c = search needs
-
-loop-less : tie.Need-loop-less Inv-loop μ-loop
-loop-less c = search needs
 
 loop-again : tie.Need-loop-again Inv-loop μ-loop
 loop-again c =
@@ -135,30 +81,30 @@ check-spec =
     (tie.spec
     Inv-loop
     μ-loop
-    shared-slice-read-size
-    size-requires
+    (λ c. search needs)
+    (λ c κs. search needs)
     returns
     returns-2
-    mul-if3
-    add-if3
+    (λ c. search needs)
+    (λ c. search needs)
     returns-3
-    mul-end
-    add-end
+    (λ c. search needs)
+    (λ c. search needs)
     loop-holds
-    kind-of-requires
-    group-requires
-    first-of-requires
-    size-requires-2
-    mul-seen
-    array-read-seen
+    (λ c κs. search needs)
+    (λ c κs. search needs)
+    (λ c κs. search needs)
+    (λ c κs. search needs)
+    (λ c. search needs)
+    (λ c. search needs)
     add-seen
-    fits-requires
+    (λ c κs. search needs)
     returns-4
-    mul-counts
-    array-write-counts
-    end-of-requires
-    add-i
-    loop-less
+    (λ c. search needs)
+    (λ c. search needs)
+    (λ c κs. search needs)
+    (λ c. search needs)
+    (λ c. search needs)
     loop-again
     returns-5
     returns-6)

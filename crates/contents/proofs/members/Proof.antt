@@ -18,20 +18,8 @@ abbrev μ-loop : tie.MeasureT-loop
 loop-holds : tie.Need-loop-holds Inv-loop μ-loop
 loop-holds c = (search needs, none-counted _ _)
 
-kind-of-requires : tie.Need-kind-of-requires Inv-loop μ-loop
-kind-of-requires c κs = search needs
-
-group-requires : tie.Need-group-requires Inv-loop μ-loop
-group-requires c κs = search needs
-
 add-c : tie.Need-add-c Inv-loop μ-loop
 add-c c = let l = c .before .before .before .before .loop in omega (arith, count-small (now (c .before .before .before .before .before .before .args .words)) (c .before .before .before .before .before .before .args .g) (l .i) (l .c) (l .inv .1) (omega arith))
-
-add-i : tie.Need-add-i Inv-loop μ-loop
-add-i c = search needs
-
-loop-less : tie.Need-loop-less Inv-loop μ-loop
-loop-less c = search needs
 
 loop-again : tie.Need-loop-again Inv-loop μ-loop
 loop-again c =
@@ -53,10 +41,10 @@ members-spec =
     Inv-loop
     μ-loop
     loop-holds
-    kind-of-requires
-    group-requires
+    (λ c κs. search needs)
+    (λ c κs. search needs)
     add-c
-    add-i
-    loop-less
+    (λ c. search needs)
+    (λ c. search needs)
     loop-again
     returns)

@@ -5,24 +5,6 @@ use borrow.Author.Needs.{needs}
 use Rattle.contents.proofs.sizes_of.Statement.{statement}
 use Rattle.contents.proofs.sizes_of.Tie as tie
 
-word-requires : tie.Need-word-requires
-word-requires c κs = search needs
-
-size-requires : tie.Need-size-requires
-size-requires c κs = search needs
-
-members-requires : tie.Need-members-requires
-members-requires c κs = search needs
-
-members-requires-2 : tie.Need-members-requires-2
-members-requires-2 c κs = search needs
-
-members-requires-3 : tie.Need-members-requires-3
-members-requires-3 c κs = search needs
-
-members-requires-4 : tie.Need-members-requires-4
-members-requires-4 c κs = search needs
-
 returns : tie.Need-returns
 returns c =
     let w = now (c .before .before .before .before .before .before .before .args .words) in
@@ -33,10 +15,10 @@ pub sizes-of-spec : {M : Type 1} → statement M
 sizes-of-spec =
     tie.close
     (tie.spec
-    word-requires
-    size-requires
-    members-requires
-    members-requires-2
-    members-requires-3
-    members-requires-4
+    (λ c κs. search needs)
+    (λ c κs. search needs)
+    (λ c κs. search needs)
+    (λ c κs. search needs)
+    (λ c κs. search needs)
+    (λ c κs. search needs)
     returns)

@@ -18,36 +18,15 @@ Inv-loop words tables n next₀ c₀ next c = (c ≤ n) × (length next ≡ 16) 
 abbrev μ-loop : tie.MeasureT-loop
 μ-loop words tables n next₀ c₀ next c = n - c
 
-size-requires : tie.Need-size-requires Inv-loop μ-loop
-size-requires c κs = search needs
-
-size-requires-2 : tie.Need-size-requires-2 Inv-loop μ-loop
-size-requires-2 c κs = search needs
-
 loop-holds : tie.Need-loop-holds Inv-loop μ-loop
 unfolding tab
 loop-holds c = search needs
 
-add-first-of : tie.Need-add-first-of Inv-loop μ-loop
-add-first-of c = search needs
-
 first-of-requires : tie.Need-first-of-requires Inv-loop μ-loop
 first-of-requires c κs = omega (arith, c .before .before .before .size .ensures .0, c .before .before .size2 .ensures .0, c .before .before .before .before .before .pre .1 .tables, c .before .before .before .before .before .pre .1 .counters, few-tables (now (c .before .before .before .before .before .args .words)) (c .before .before .before .before .before .pre .0), few-counters (now (c .before .before .before .before .before .args .words)) (c .before .before .before .before .before .pre .0))
 
-word-requires : tie.Need-word-requires Inv-loop μ-loop
-word-requires c κs = search needs
-
-mul-next : tie.Need-mul-next Inv-loop μ-loop
-mul-next c = search needs
-
 array-write-next : tie.Need-array-write-next Inv-loop μ-loop
 array-write-next c = omega (arith, c .before .before .before .before .size2 .ensures .0, c .before .before .before .before .before .before .before .pre .1 .counters, few-counters (now (c .before .before .before .before .before .before .before .args .words)) (c .before .before .before .before .before .before .before .pre .0))
-
-add-c : tie.Need-add-c Inv-loop μ-loop
-add-c c = search needs
-
-loop-less : tie.Need-loop-less Inv-loop μ-loop
-loop-less c = search needs
 
 loop-again : tie.Need-loop-again Inv-loop μ-loop
 loop-again c = (omega arith, length-set (c .before .before .before .loop .next) (c .before .before .before .loop .c) (c .word .result) ∙ c .before .before .before .loop .inv .1, filled-turn (λ k. getD (now (c .before .before .before .before .before .before .before .args .words)) (firstOf (now (c .before .before .before .before .before .before .before .args .words)) (c .before .before .before .before .before .size .result + k)) 0) (c .before .before .before .loop .c) (replicate 16 0) (c .before .before .before .loop .next) (c .word .result) 0 (c .before .before .before .loop .inv .2) (c .word .ensures ∙ ap (λ (p : ℕ). getD (now (c .before .before .before .before .before .before .before .args .words)) p 0) (c .before .first-of .ensures .0)) (omega (arith, c .before .before .before .before .size2 .ensures .0, c .before .before .before .before .before .before .before .pre .1 .counters, few-counters (now (c .before .before .before .before .before .before .before .args .words)) (c .before .before .before .before .before .before .before .pre .0), length-replicate {A = ℕ} 16 0)))
@@ -61,15 +40,15 @@ counters-of-spec =
     (tie.spec
     Inv-loop
     μ-loop
-    size-requires
-    size-requires-2
+    (λ c κs. search needs)
+    (λ c κs. search needs)
     loop-holds
-    add-first-of
+    (λ c. search needs)
     first-of-requires
-    word-requires
-    mul-next
+    (λ c κs. search needs)
+    (λ c. search needs)
     array-write-next
-    add-c
-    loop-less
+    (λ c. search needs)
+    (λ c. search needs)
     loop-again
     returns)

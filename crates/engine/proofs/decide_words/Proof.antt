@@ -33,9 +33,6 @@ first-refusal-requires c κs =
     let e = front-count (now (a .book)) (now (a .words)) (l .last .1 .0) (l .result) (l .ensures .0) (l .ensures .1) in
     (omega (arith, e, l .ensures .0, words-some (now (a .book)) passed), omega (arith, e, l .ensures .0, words-most (now (a .book)) passed))
 
-enum-told : tie.Need-enum-told
-enum-told c = search needs
-
 slice-reshare-prefix-run-book : tie.Need-slice-reshare-prefix-run-book
 slice-reshare-prefix-run-book c =
     let a = c .before .before .before .before .before .before .before .before .before .before .before .before .before .before .before .args in
@@ -63,27 +60,6 @@ run-book-requires c κs =
       p .7,
     )
 
-enum-known-number : tie.Need-enum-known-number
-enum-known-number c = search needs
-
-same-length : tie.Need-same-length
-same-length c = search needs
-
-same-length-2 : tie.Need-same-length-2
-same-length-2 c = search needs
-
-same-length-3 : tie.Need-same-length-3
-same-length-3 c = search needs
-
-same-length-4 : tie.Need-same-length-4
-same-length-4 c = search needs
-
-same-length-5 : tie.Need-same-length-5
-same-length-5 c = search needs
-
-same-length-6 : tie.Need-same-length-6
-same-length-6 c = search needs
-
 returns : tie.Need-returns
 returns c =
     let a = c .before .before .before .before .before .before .before .before .before .before .before .before .before .before .before .before .before .before .before .before .before .before .before .before .before .before .before .before .before .before .before .before .args in
@@ -93,9 +69,6 @@ returns c =
     let front = front-is (now (a .book)) (now (a .words)) (l .last .1 .0) (l .result) (l .ensures .0) (l .ensures .1) in
     let fit = fit-true _ _ _ _ (ap length (p .2) ∙ length-replicate {A = ℕ} 8192 0, ap length (p .3) ∙ length-replicate {A = ℕ} 8192 0, p .5, p .6) in
     front-decided (now (a .book)) _ front (p .0) _ (c .before .before .before .before .before .before .before .before .before .before .before .before .before .before .before .before .before .before .before .first-refusal .ensures) (lentOf (now (a .bindings)) (now (a .index)) (now (a .log)) (now (a .tables)) (now (a .answer))) (r .last .1 .1 .1 .1 .1 .0) fit (c .before .before .before .before .before .before .before .before .before .before .before .before .before .before .before .before .before .enum-told .given .1) (r .result) (r .ensures)
-
-same-length-7 : tie.Need-same-length-7
-same-length-7 c = search needs
 
 returns-2 : tie.Need-returns-2
 returns-2 c =
@@ -114,17 +87,17 @@ decide-words-spec =
     slice-reshare-prefix-first-refusal
     slice-aggregate-first-refusal
     first-refusal-requires
-    enum-told
+    (λ c. search needs)
     slice-reshare-prefix-run-book
     slice-aggregate-run-book
     run-book-requires
-    enum-known-number
-    same-length
-    same-length-2
-    same-length-3
-    same-length-4
-    same-length-5
-    same-length-6
+    (λ c. search needs)
+    (λ c. search needs)
+    (λ c. search needs)
+    (λ c. search needs)
+    (λ c. search needs)
+    (λ c. search needs)
+    (λ c. search needs)
     returns
-    same-length-7
+    (λ c. search needs)
     returns-2)

@@ -7,37 +7,10 @@ use borrow.Author.Needs.{needs}
 use Rattle.engine.proofs.run.Statement.{statement}
 use Rattle.engine.proofs.run.Tie as tie
 
-clear-requires : tie.Need-clear-requires
-clear-requires c κs = search needs
-
-clear-requires-2 : tie.Need-clear-requires-2
-clear-requires-2 c κs = search needs
-
-clear-requires-3 : tie.Need-clear-requires-3
-clear-requires-3 c κs = search needs
-
-clear-requires-4 : tie.Need-clear-requires-4
-clear-requires-4 c κs = search needs
-
 decide-requires : tie.Need-decide-requires
 decide-requires c κs =
     let a = c .before .before .before .before .before .before .before .before .before .before .before .before .before .before .before .before .before .before .before .before .before .before .before .before .before .before .before .args in
     (zeroed _ (length (now (a .bindings))) (c .before .before .before .before .before .before .before .before .before .before .before .before .before .before .before .before .before .before .before .clear .ensures), zeroed _ (length (now (a .index))) (c .before .before .before .before .before .before .before .before .before .before .before .before .before .before .before .clear2 .ensures), zeroed _ (length (now (a .log))) (c .before .before .before .before .before .before .before .before .before .before .before .clear3 .ensures), zeroed _ (length (now (a .answer))) (c .before .before .before .before .before .before .before .clear4 .ensures))
-
-clear-requires-5 : tie.Need-clear-requires-5
-clear-requires-5 c κs = search needs
-
-clear-requires-6 : tie.Need-clear-requires-6
-clear-requires-6 c κs = search needs
-
-clear-requires-7 : tie.Need-clear-requires-7
-clear-requires-7 c κs = search needs
-
-clear-requires-8 : tie.Need-clear-requires-8
-clear-requires-8 c κs = search needs
-
-keep-or-clear-requires : tie.Need-keep-or-clear-requires
-keep-or-clear-requires c κs = search needs
 
 same-length : tie.Need-same-length
 same-length c = c .before .before .before .before .before .before .before .before .before .before .before .before .before .before .before .before .before .before .clear5 .kept .0 ∙ c .before .before .before .before .before .before .before .before .before .before .before .before .before .before .before .before .before .before .before .before .before .before .before .before .before .before .before .before .before .before .decide .kept .1 .0 ∙ c .before .before .before .before .before .before .before .before .before .before .before .before .before .before .before .before .before .before .before .before .before .before .before .before .before .before .before .before .before .before .before .before .before .before .before .before .before .before .before .before .before .before .before .before .before .before .before .before .before .before .clear .kept .0
@@ -85,16 +58,16 @@ pub run-spec : {M : Type 1} → statement M
 run-spec =
     tie.close
     (tie.spec
-    clear-requires
-    clear-requires-2
-    clear-requires-3
-    clear-requires-4
+    (λ c κs. search needs)
+    (λ c κs. search needs)
+    (λ c κs. search needs)
+    (λ c κs. search needs)
     decide-requires
-    clear-requires-5
-    clear-requires-6
-    clear-requires-7
-    clear-requires-8
-    keep-or-clear-requires
+    (λ c κs. search needs)
+    (λ c κs. search needs)
+    (λ c κs. search needs)
+    (λ c κs. search needs)
+    (λ c κs. search needs)
     same-length
     same-length-2
     same-length-3

@@ -13,23 +13,11 @@ use Rattle.engine.proofs.run_book.Tie as tie
 sizes-of-requires : tie.Need-sizes-of-requires
 sizes-of-requires c κs = few-entries (now (c .before .before .before .before .before .before .args .words)) (c .before .before .before .before .before .before .pre .0 .readable)
 
-size-requires : tie.Need-size-requires
-size-requires c κs = search needs
-
-size-requires-2 : tie.Need-size-requires-2
-size-requires-2 c κs = search needs
-
 add-base : tie.Need-add-base
 add-base c = omega (arith, c .size2 .ensures .1, c .before .size .ensures .1)
 
-size-requires-3 : tie.Need-size-requires-3
-size-requires-3 c κs = search needs
-
 add-first : tie.Need-add-first
 add-first c = omega (arith, c .size3 .ensures .1, c .before .size2 .ensures .1, c .before .before .size .ensures .1)
-
-size-requires-4 : tie.Need-size-requires-4
-size-requires-4 c κs = search needs
 
 start-requires : tie.Need-start-requires
 start-requires c κs = (c .before .before .before .before .before .before .before .before .before .before .before .pre .0 .readable, c .before .before .before .before .sizes-of .ensures)
@@ -64,21 +52,6 @@ conclude-requires c κs =
       may-conclude (now (a .words)) (p .0) (now (a .bindings)) (now (a .index)) (now (a .log)) (now (a .answer)) (p .4) (p .2) (p .3) (p .6) _ (c .before .before .before .before .before .before .before .before .before .before .before .before .before .before .before .before .before .size4 .ensures .0 ∙ z .steps) _ (c .before .before .before .before .before .before .before .before .before .before .before .before .before .before .before .before .start .ensures) _ (r .ensures .0) (r .kept .1 .1 .1 .1 .1 .1 .1 .0) (r .ensures .1 .2) (r .ensures .1 .0),
     )
 
-same-length : tie.Need-same-length
-same-length c = search needs
-
-same-length-2 : tie.Need-same-length-2
-same-length-2 c = search needs
-
-same-length-3 : tie.Need-same-length-3
-same-length-3 c = search needs
-
-same-length-4 : tie.Need-same-length-4
-same-length-4 c = search needs
-
-same-length-5 : tie.Need-same-length-5
-same-length-5 c = search needs
-
 returns : tie.Need-returns
 returns c =
     let p = c .before .before .before .before .before .before .before .before .before .before .before .before .before .before .before .before .before .before .before .before .before .before .before .before .before .before .before .before .before .before .before .before .before .pre in
@@ -92,18 +65,18 @@ run-book-spec =
     tie.close
     (tie.spec
     sizes-of-requires
-    size-requires
-    size-requires-2
+    (λ c κs. search needs)
+    (λ c κs. search needs)
     add-base
-    size-requires-3
+    (λ c κs. search needs)
     add-first
-    size-requires-4
+    (λ c κs. search needs)
     start-requires
     run-steps-requires
     conclude-requires
-    same-length
-    same-length-2
-    same-length-3
-    same-length-4
-    same-length-5
+    (λ c. search needs)
+    (λ c. search needs)
+    (λ c. search needs)
+    (λ c. search needs)
+    (λ c. search needs)
     returns)

@@ -7,23 +7,11 @@ use borrow.Author.Needs.{needs}
 use Rattle.execution.proofs.stage_lane.Statement.{statement}
 use Rattle.execution.proofs.stage_lane.Tie as tie
 
-going-requires : tie.Need-going-requires
-going-requires c κs = search needs
-
-fetch-requires : tie.Need-fetch-requires
-fetch-requires c κs = search needs
-
-enum-told : tie.Need-enum-told
-enum-told c = search needs
-
 stage-insert-requires : tie.Need-stage-insert-requires
 unfolding fetched
 stage-insert-requires c κs =
     let n = ap (λ (x : Args). x .count) (c .before .before .before .before .before .fetch .ensures) in
     (c .before .before .before .before .before .before .before .before .before .before .before .pre .1, omega (arith, c .before .before .before .before .before .before .before .before .before .before .before .pre .0 .1))
-
-enum-told-2 : tie.Need-enum-told-2
-enum-told-2 c = search needs
 
 stage-remove-requires : tie.Need-stage-remove-requires
 unfolding fetched
@@ -31,17 +19,11 @@ stage-remove-requires c κs =
     let n = ap (λ (x : Args). x .count) (c .before .before .before .before .before .fetch .ensures) in
     (c .before .before .before .before .before .before .before .before .before .before .before .pre .1, omega (arith, c .before .before .before .before .before .before .before .before .before .before .before .pre .0 .1))
 
-same-length : tie.Need-same-length
-same-length c = search needs
-
 returns : tie.Need-returns
 unfolding stagedLane
 returns c =
     let e = c .before .before .stage-insert .ensures in
     (rw (← c .before .before .before .before .before .before .before .before .before .before .going .ensures, c .before .before .before .before .before .before .before .before .before .if1 .taken, ← c .before .before .before .before .before .before .before .before .fetch .ensures, c .before .before .before .before .before .enum-told .given .1) (e .0), e .1)
-
-same-length-2 : tie.Need-same-length-2
-same-length-2 c = search needs
 
 returns-2 : tie.Need-returns-2
 unfolding stagedLane
@@ -57,14 +39,14 @@ pub stage-lane-spec : {M : Type 1} → statement M
 stage-lane-spec =
     tie.close
     (tie.spec
-    going-requires
-    fetch-requires
-    enum-told
+    (λ c κs. search needs)
+    (λ c κs. search needs)
+    (λ c. search needs)
     stage-insert-requires
-    enum-told-2
+    (λ c. search needs)
     stage-remove-requires
-    same-length
+    (λ c. search needs)
     returns
-    same-length-2
+    (λ c. search needs)
     returns-2
     returns-3)

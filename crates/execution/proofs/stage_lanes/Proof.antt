@@ -22,32 +22,14 @@ Inv-loop words bindings what log₀ mask n s₀ i₀ log s i =
 abbrev μ-loop : tie.MeasureT-loop
 μ-loop words bindings what log₀ mask n s₀ i₀ log s i = n - i
 
-end-requires : tie.Need-end-requires Inv-loop μ-loop
-end-requires c κs = search needs
-
 loop-holds : tie.Need-loop-holds Inv-loop μ-loop
 loop-holds c = (search needs, refl, search needs, refl)
-
-element-copy-out-stage-lane : tie.Need-element-copy-out-stage-lane Inv-loop μ-loop
-element-copy-out-stage-lane c = search needs
-
-stage-lane-requires : tie.Need-stage-lane-requires Inv-loop μ-loop
-stage-lane-requires c κs = search needs
-
-add-i : tie.Need-add-i Inv-loop μ-loop
-add-i c = search needs
-
-loop-less : tie.Need-loop-less Inv-loop μ-loop
-loop-less c = search needs
 
 loop-again : tie.Need-loop-again Inv-loop μ-loop
 loop-again c =
     let l = c .before .before .before .before .before .before .loop in
     let r = c .before .before .stage-lane in
     (search needs, r .kept .1 .1 .1 .1 .1 .1 .0 ∙ l .inv .1, omega (arith, r .ensures .1, l .inv .1), iter-more _ (l .i) _ _ _ (l .inv .3) (r .ensures .0))
-
-same-length : tie.Need-same-length Inv-loop μ-loop
-same-length c = search needs
 
 returns : tie.Need-returns Inv-loop μ-loop
 unfolding stagedLanes stagedLane
@@ -62,12 +44,12 @@ stage-lanes-spec =
     (tie.spec
     Inv-loop
     μ-loop
-    end-requires
+    (λ c κs. search needs)
     loop-holds
-    element-copy-out-stage-lane
-    stage-lane-requires
-    add-i
-    loop-less
+    (λ c. search needs)
+    (λ c κs. search needs)
+    (λ c. search needs)
+    (λ c. search needs)
     loop-again
-    same-length
+    (λ c. search needs)
     returns)

@@ -43,12 +43,6 @@ add-at c =
     let l = c .before .before .before .before .before .before .before .before .loop in
     omega (arith, row-within (l .i) (a .info .rows) (a .info .width) (c .before .before .before .before .before .before .if1 .taken), c .before .before .before .before .before .before .before .before .before .before .before .pre .0 .rows, c .before .before .before .before .before .before .before .before .before .before .before .good, l .inv .1)
 
-add-i : tie.Need-add-i Inv-loop μ-loop
-add-i c = search needs
-
-loop-less : tie.Need-loop-less Inv-loop μ-loop
-loop-less c = search needs
-
 loop-again : tie.Need-loop-again Inv-loop μ-loop
 unfolding rowsAdded
 loop-again c =
@@ -84,8 +78,8 @@ add-rows-spec =
     home-requires
     add-requires
     add-at
-    add-i
-    loop-less
+    (λ c. search needs)
+    (λ c. search needs)
     loop-again
     same-length
     returns)

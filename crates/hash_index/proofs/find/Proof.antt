@@ -15,19 +15,10 @@ Inv-loop words index info first key p₀ p = (has : Has words info first index) 
 abbrev μ-loop : tie.MeasureT-loop
 μ-loop words index info first key p₀ p = left p
 
-home-requires : tie.Need-home-requires Inv-loop μ-loop
-home-requires c κs = search needs
-
-mul-size : tie.Need-mul-size Inv-loop μ-loop
-mul-size c = search needs
-
 shared-slice-read-size : tie.Need-shared-slice-read-size Inv-loop μ-loop
 shared-slice-read-size c =
     let a = c .before .before .before .before .before .args in
     omega (arith, c .before .home .ensures .1, has-length (now (a .words)) (a .info) (now (a .key)) (a .first) (now (a .index)) (c .before .before .before .before .before .pre .1))
-
-size-requires : tie.Need-size-requires Inv-loop μ-loop
-size-requires c κs = search needs
 
 loop-holds : tie.Need-loop-holds Inv-loop μ-loop
 loop-holds c =
@@ -72,9 +63,6 @@ shared-slice-read-size-2 c =
     let s = standing (now (a .words)) (a .info) (now (a .key)) (a .first) (now (a .index)) (l .inv .0) (l .p) (l .inv .1) (c .before .before .before .loop-test .taken) in
     omega (arith, s .below, has-length (now (a .words)) (a .info) (now (a .key)) (a .first) (now (a .index)) (l .inv .0))
 
-size-requires-2 : tie.Need-size-requires-2 Inv-loop μ-loop
-size-requires-2 c κs = search needs
-
 loop-less : tie.Need-loop-less Inv-loop μ-loop
 loop-less c =
     let a = c .before .before .before .before .before .before .before .before .before .before .before .before .args in
@@ -101,10 +89,10 @@ find-spec =
     (tie.spec
     Inv-loop
     μ-loop
-    home-requires
-    mul-size
+    (λ c κs. search needs)
+    (λ c. search needs)
     shared-slice-read-size
-    size-requires
+    (λ c κs. search needs)
     loop-holds
     is-row-requires
     place-requires
@@ -112,7 +100,7 @@ find-spec =
     add-size
     mul-size-2
     shared-slice-read-size-2
-    size-requires-2
+    (λ c κs. search needs)
     loop-less
     loop-again
     returns-2)

@@ -21,32 +21,11 @@ abbrev μ-loop : tie.MeasureT-loop
 loop-holds : tie.Need-loop-holds Inv-loop μ-loop
 loop-holds c = (search needs, folded-none 0 (λ j. getD (now (c .before .args .words)) (c .before .args .at + j) 0))
 
-add-mix : tie.Need-add-mix Inv-loop μ-loop
-add-mix c = search needs
-
-mul-mix : tie.Need-mul-mix Inv-loop μ-loop
-mul-mix c = search needs
-
-shared-slice-read-mix : tie.Need-shared-slice-read-mix Inv-loop μ-loop
-shared-slice-read-mix c = search needs
-
-mix-requires : tie.Need-mix-requires Inv-loop μ-loop
-mix-requires c κs = search needs
-
-add-i : tie.Need-add-i Inv-loop μ-loop
-add-i c = search needs
-
-loop-less : tie.Need-loop-less Inv-loop μ-loop
-loop-less c = search needs
-
 loop-again : tie.Need-loop-again Inv-loop μ-loop
 loop-again c =
     let a = c .before .before .before .before .before .args in
     let l = c .before .before .before .loop in
     (search needs, folded-more 0 (λ j. getD (now (a .words)) (a .at + j) 0) (l .i) (l .h) (c .mix .result) (l .inv .1) (c .mix .ensures))
-
-size-requires : tie.Need-size-requires Inv-loop μ-loop
-size-requires c κs = search needs
 
 returns : tie.Need-returns Inv-loop μ-loop
 unfolding homeOf
@@ -64,12 +43,12 @@ home-spec =
     Inv-loop
     μ-loop
     loop-holds
-    add-mix
-    mul-mix
-    shared-slice-read-mix
-    mix-requires
-    add-i
-    loop-less
+    (λ c. search needs)
+    (λ c. search needs)
+    (λ c. search needs)
+    (λ c κs. search needs)
+    (λ c. search needs)
+    (λ c. search needs)
     loop-again
-    size-requires
+    (λ c κs. search needs)
     returns)

@@ -3,24 +3,6 @@ use borrow.Author.Needs.{needs}
 use Rattle.instr.proofs.external_at.Statement.{statement}
 use Rattle.instr.proofs.external_at.Tie as tie
 
-add-word : tie.Need-add-word
-add-word c = search needs
-
-word-requires : tie.Need-word-requires
-word-requires c κs = search needs
-
-add-list-at : tie.Need-add-list-at
-add-list-at c = search needs
-
-list-at-requires : tie.Need-list-at-requires
-list-at-requires c κs = search needs
-
-end-requires : tie.Need-end-requires
-end-requires c κs = search needs
-
-word-requires-2 : tie.Need-word-requires-2
-word-requires-2 c κs = search needs
-
 returns : tie.Need-returns
 unfolding externalAt
 returns c = rw (c .word2 .ensures, c .before .end .ensures, c .before .before .list-at .ensures .0, c .before .before .before .word .ensures)
@@ -29,10 +11,10 @@ pub external-at-spec : {M : Type 1} → statement M
 external-at-spec =
     tie.close
     (tie.spec
-    add-word
-    word-requires
-    add-list-at
-    list-at-requires
-    end-requires
-    word-requires-2
+    (λ c. search needs)
+    (λ c κs. search needs)
+    (λ c. search needs)
+    (λ c κs. search needs)
+    (λ c κs. search needs)
+    (λ c κs. search needs)
     returns)

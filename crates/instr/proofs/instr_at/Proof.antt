@@ -6,48 +6,6 @@ use borrow.Author.Needs.{needs}
 use Rattle.instr.proofs.instr_at.Statement.{statement}
 use Rattle.instr.proofs.instr_at.Tie as tie
 
-word-requires : tie.Need-word-requires
-word-requires c κs = search needs
-
-lookup-or-insert-default-at-requires : tie.Need-lookup-or-insert-default-at-requires
-lookup-or-insert-default-at-requires c κs = search needs
-
-lookup-with-default-at-requires : tie.Need-lookup-with-default-at-requires
-lookup-with-default-at-requires c κs = search needs
-
-lookup-at-requires : tie.Need-lookup-at-requires
-lookup-at-requires c κs = search needs
-
-lookup-with-fallback-at-requires : tie.Need-lookup-with-fallback-at-requires
-lookup-with-fallback-at-requires c κs = search needs
-
-insert-at-requires : tie.Need-insert-at-requires
-insert-at-requires c κs = search needs
-
-insert-if-eq-at-requires : tie.Need-insert-if-eq-at-requires
-insert-if-eq-at-requires c κs = search needs
-
-remove-at-requires : tie.Need-remove-at-requires
-remove-at-requires c κs = search needs
-
-external-at-requires : tie.Need-external-at-requires
-external-at-requires c κs = search needs
-
-external-with-fallback-at-requires : tie.Need-external-with-fallback-at-requires
-external-with-fallback-at-requires c κs = search needs
-
-assert-eq-at-requires : tie.Need-assert-eq-at-requires
-assert-eq-at-requires c κs = search needs
-
-assert-ne-at-requires : tie.Need-assert-ne-at-requires
-assert-ne-at-requires c κs = search needs
-
-assert-any-ne-at-requires : tie.Need-assert-any-ne-at-requires
-assert-any-ne-at-requires c κs = search needs
-
-read-counter-at-requires : tie.Need-read-counter-at-requires
-read-counter-at-requires c κs = search needs
-
 returns : tie.Need-returns
 unfolding instrBy
 returns c = c .lookup-or-insert-default-at .ensures ∙ rw (← c .before .before .word .ensures, c .before .match .keys1)
@@ -107,20 +65,20 @@ pub instr-at-spec : {M : Type 1} → statement M
 instr-at-spec =
     tie.close
     (tie.spec
-    word-requires
-    lookup-or-insert-default-at-requires
-    lookup-with-default-at-requires
-    lookup-at-requires
-    lookup-with-fallback-at-requires
-    insert-at-requires
-    insert-if-eq-at-requires
-    remove-at-requires
-    external-at-requires
-    external-with-fallback-at-requires
-    assert-eq-at-requires
-    assert-ne-at-requires
-    assert-any-ne-at-requires
-    read-counter-at-requires
+    (λ c κs. search needs)
+    (λ c κs. search needs)
+    (λ c κs. search needs)
+    (λ c κs. search needs)
+    (λ c κs. search needs)
+    (λ c κs. search needs)
+    (λ c κs. search needs)
+    (λ c κs. search needs)
+    (λ c κs. search needs)
+    (λ c κs. search needs)
+    (λ c κs. search needs)
+    (λ c κs. search needs)
+    (λ c κs. search needs)
+    (λ c κs. search needs)
     returns
     returns-2
     returns-3

@@ -6,114 +6,6 @@ use borrow.Author.Needs.{needs}
 use Rattle.instr.proofs.next.Statement.{statement}
 use Rattle.instr.proofs.next.Tie as tie
 
-word-requires : tie.Need-word-requires
-word-requires c κs = search needs
-
-add-past-list : tie.Need-add-past-list
-add-past-list c = search needs
-
-past-list-requires : tie.Need-past-list-requires
-past-list-requires c κs = search needs
-
-past-list-requires-2 : tie.Need-past-list-requires-2
-past-list-requires-2 c κs = search needs
-
-add-result : tie.Need-add-result
-add-result c = search needs
-
-add-past-list-2 : tie.Need-add-past-list-2
-add-past-list-2 c = search needs
-
-past-list-requires-3 : tie.Need-past-list-requires-3
-past-list-requires-3 c κs = search needs
-
-add-result-2 : tie.Need-add-result-2
-add-result-2 c = search needs
-
-add-past-list-3 : tie.Need-add-past-list-3
-add-past-list-3 c = search needs
-
-past-list-requires-4 : tie.Need-past-list-requires-4
-past-list-requires-4 c κs = search needs
-
-add-result-3 : tie.Need-add-result-3
-add-result-3 c = search needs
-
-add-past-list-4 : tie.Need-add-past-list-4
-add-past-list-4 c = search needs
-
-past-list-requires-5 : tie.Need-past-list-requires-5
-past-list-requires-5 c κs = search needs
-
-add-past-list-5 : tie.Need-add-past-list-5
-add-past-list-5 c = search needs
-
-past-list-requires-6 : tie.Need-past-list-requires-6
-past-list-requires-6 c κs = search needs
-
-add-result-4 : tie.Need-add-result-4
-add-result-4 c = search needs
-
-add-past-list-6 : tie.Need-add-past-list-6
-add-past-list-6 c = search needs
-
-past-list-requires-7 : tie.Need-past-list-requires-7
-past-list-requires-7 c κs = search needs
-
-add-past-list-7 : tie.Need-add-past-list-7
-add-past-list-7 c = search needs
-
-past-list-requires-8 : tie.Need-past-list-requires-8
-past-list-requires-8 c κs = search needs
-
-add-past-list-8 : tie.Need-add-past-list-8
-add-past-list-8 c = search needs
-
-past-list-requires-9 : tie.Need-past-list-requires-9
-past-list-requires-9 c κs = search needs
-
-add-past-list-9 : tie.Need-add-past-list-9
-add-past-list-9 c = search needs
-
-past-list-requires-10 : tie.Need-past-list-requires-10
-past-list-requires-10 c κs = search needs
-
-add-result-5 : tie.Need-add-result-5
-add-result-5 c = search needs
-
-add-past-list-10 : tie.Need-add-past-list-10
-add-past-list-10 c = search needs
-
-past-list-requires-11 : tie.Need-past-list-requires-11
-past-list-requires-11 c κs = search needs
-
-add-past-list-11 : tie.Need-add-past-list-11
-add-past-list-11 c = search needs
-
-past-list-requires-12 : tie.Need-past-list-requires-12
-past-list-requires-12 c κs = search needs
-
-add-result-6 : tie.Need-add-result-6
-add-result-6 c = search needs
-
-add-result-7 : tie.Need-add-result-7
-add-result-7 c = search needs
-
-add-result-8 : tie.Need-add-result-8
-add-result-8 c = search needs
-
-add-past-list-12 : tie.Need-add-past-list-12
-add-past-list-12 c = search needs
-
-past-list-requires-13 : tie.Need-past-list-requires-13
-past-list-requires-13 c κs = search needs
-
-add-result-9 : tie.Need-add-result-9
-add-result-9 c = search needs
-
-add-result-10 : tie.Need-add-result-10
-add-result-10 c = search needs
-
 returns : tie.Need-returns
 unfolding nextBy
 returns c = rw (c .past-list2 .ensures .0, c .before .past-list .ensures .0) (next-op (now (c .before .before .before .before .before .args .words)) (c .before .before .before .before .before .args .p) 1 (sym (c .before .before .before .word .ensures) ∙ c .before .before .match .keys1))
@@ -173,42 +65,42 @@ pub next-spec : {M : Type 1} → statement M
 next-spec =
     tie.close
     (tie.spec
-    word-requires
-    add-past-list
-    past-list-requires
-    past-list-requires-2
-    add-result
-    add-past-list-2
-    past-list-requires-3
-    add-result-2
-    add-past-list-3
-    past-list-requires-4
-    add-result-3
-    add-past-list-4
-    past-list-requires-5
-    add-past-list-5
-    past-list-requires-6
-    add-result-4
-    add-past-list-6
-    past-list-requires-7
-    add-past-list-7
-    past-list-requires-8
-    add-past-list-8
-    past-list-requires-9
-    add-past-list-9
-    past-list-requires-10
-    add-result-5
-    add-past-list-10
-    past-list-requires-11
-    add-past-list-11
-    past-list-requires-12
-    add-result-6
-    add-result-7
-    add-result-8
-    add-past-list-12
-    past-list-requires-13
-    add-result-9
-    add-result-10
+    (λ c κs. search needs)
+    (λ c. search needs)
+    (λ c κs. search needs)
+    (λ c κs. search needs)
+    (λ c. search needs)
+    (λ c. search needs)
+    (λ c κs. search needs)
+    (λ c. search needs)
+    (λ c. search needs)
+    (λ c κs. search needs)
+    (λ c. search needs)
+    (λ c. search needs)
+    (λ c κs. search needs)
+    (λ c. search needs)
+    (λ c κs. search needs)
+    (λ c. search needs)
+    (λ c. search needs)
+    (λ c κs. search needs)
+    (λ c. search needs)
+    (λ c κs. search needs)
+    (λ c. search needs)
+    (λ c κs. search needs)
+    (λ c. search needs)
+    (λ c κs. search needs)
+    (λ c. search needs)
+    (λ c. search needs)
+    (λ c κs. search needs)
+    (λ c. search needs)
+    (λ c κs. search needs)
+    (λ c. search needs)
+    (λ c. search needs)
+    (λ c. search needs)
+    (λ c. search needs)
+    (λ c κs. search needs)
+    (λ c. search needs)
+    (λ c. search needs)
     returns
     returns-2
     returns-3

@@ -4,18 +4,6 @@ use borrow.Author.Needs.{needs}
 use Rattle.instr.proofs.write_at.Statement.{statement}
 use Rattle.instr.proofs.write_at.Tie as tie
 
-word-requires : tie.Need-word-requires
-word-requires c κs = search needs
-
-add-word : tie.Need-add-word
-add-word c = search needs
-
-word-requires-2 : tie.Need-word-requires-2
-word-requires-2 c κs = search needs
-
-size-requires : tie.Need-size-requires
-size-requires c κs = search needs
-
 returns : tie.Need-returns
 unfolding writeBy
 returns c = rw (← c .before .before .word .ensures, c .match .keys1, c .before .word2 .ensures)
@@ -35,10 +23,10 @@ pub write-at-spec : {M : Type 1} → statement M
 write-at-spec =
     tie.close
     (tie.spec
-    word-requires
-    add-word
-    word-requires-2
-    size-requires
+    (λ c κs. search needs)
+    (λ c. search needs)
+    (λ c κs. search needs)
+    (λ c κs. search needs)
     returns
     returns-2
     returns-3

@@ -3,41 +3,14 @@ use borrow.Author.Needs.{needs}
 use Rattle.lanes.proofs.answer.Statement.{statement}
 use Rattle.lanes.proofs.answer.Tie as tie
 
-enum-known-ask : tie.Need-enum-known-ask
-enum-known-ask c = search needs
-
 fetch-requires : tie.Need-fetch-requires
 fetch-requires c κs = (rw (c .before .ask .given .1) at (c .before .before .before .before .before .before .pre)) .1
-
-slice-aggregate-row-of : tie.Need-slice-aggregate-row-of
-slice-aggregate-row-of c = search needs
-
-slice-aggregate-row-of-2 : tie.Need-slice-aggregate-row-of-2
-slice-aggregate-row-of-2 c = search needs
 
 row-of-requires : tie.Need-row-of-requires
 row-of-requires c κs = (rw (c .before .before .before .before .before .before .ask .given .1) at (c .before .before .before .before .before .before .before .before .before .before .before .pre)) .0
 
-column-requires : tie.Need-column-requires
-column-requires c κs = search needs
-
-enum-known-ask-2 : tie.Need-enum-known-ask-2
-enum-known-ask-2 c = search needs
-
 fetch-requires-2 : tie.Need-fetch-requires-2
 fetch-requires-2 c κs = rw (c .before .ask2 .given .1) at (c .before .before .before .before .before .before .pre)
-
-invoke-requires : tie.Need-invoke-requires
-invoke-requires c κs = search needs
-
-enum-known-ask-3 : tie.Need-enum-known-ask-3
-enum-known-ask-3 c = search needs
-
-variable-requires : tie.Need-variable-requires
-variable-requires c κs = search needs
-
-enum-known-ask-4 : tie.Need-enum-known-ask-4
-enum-known-ask-4 c = search needs
 
 returns : tie.Need-returns
 unfolding asked
@@ -59,18 +32,18 @@ pub answer-spec : {M : Type 1} → statement M
 answer-spec =
     tie.close
     (tie.spec
-    enum-known-ask
+    (λ c. search needs)
     fetch-requires
-    slice-aggregate-row-of
-    slice-aggregate-row-of-2
+    (λ c. search needs)
+    (λ c. search needs)
     row-of-requires
-    column-requires
-    enum-known-ask-2
+    (λ c κs. search needs)
+    (λ c. search needs)
     fetch-requires-2
-    invoke-requires
-    enum-known-ask-3
-    variable-requires
-    enum-known-ask-4
+    (λ c κs. search needs)
+    (λ c. search needs)
+    (λ c κs. search needs)
+    (λ c. search needs)
     returns
     returns-2
     returns-3

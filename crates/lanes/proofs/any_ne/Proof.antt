@@ -15,32 +15,8 @@ Inv-loop divider ops count left pairs k₀ k = (k ≤ pairs) × (anyNe (take div
 abbrev μ-loop : tie.MeasureT-loop
 μ-loop divider ops count left pairs k₀ k = pairs - k
 
-least-requires : tie.Need-least-requires Inv-loop μ-loop
-least-requires c κs = search needs
-
-sub-least : tie.Need-sub-least Inv-loop μ-loop
-sub-least c = search needs
-
-least-requires-2 : tie.Need-least-requires-2 Inv-loop μ-loop
-least-requires-2 c κs = search needs
-
 loop-holds : tie.Need-loop-holds Inv-loop μ-loop
 loop-holds c = (search needs, refl)
-
-mul-if1 : tie.Need-mul-if1 Inv-loop μ-loop
-mul-if1 c = search needs
-
-element-copy-out-if1 : tie.Need-element-copy-out-if1 Inv-loop μ-loop
-element-copy-out-if1 c = search needs
-
-add-if1 : tie.Need-add-if1 Inv-loop μ-loop
-add-if1 c = search needs
-
-mul-if1-2 : tie.Need-mul-if1-2 Inv-loop μ-loop
-mul-if1-2 c = search needs
-
-element-copy-out-if1-2 : tie.Need-element-copy-out-if1-2 Inv-loop μ-loop
-element-copy-out-if1-2 c = search needs
 
 returns : tie.Need-returns Inv-loop μ-loop
 returns c =
@@ -49,12 +25,6 @@ returns c =
     let n : length (a .t1 .vals) ≡ 16 = search needs in
     let d : c .before .before .before .before .before .before .least .result ≡ min (a .divider) (a .t1 .count) = c .before .before .before .before .before .before .least .ensures in
     pair-differs (a .t1 .vals) (a .divider) (a .t1 .count) (omega (arith, c .before .before .before .before .before .before .before .pre)) (l .k) (omega (arith, d, c .before .before .before .before .before .least2 .ensures)) (rw d at (c .if1 .taken)) ∙ sym (l .inv .1)
-
-add-k : tie.Need-add-k Inv-loop μ-loop
-add-k c = search needs
-
-loop-less : tie.Need-loop-less Inv-loop μ-loop
-loop-less c = search needs
 
 loop-again : tie.Need-loop-again Inv-loop μ-loop
 loop-again c =
@@ -78,17 +48,17 @@ any-ne-spec =
     (tie.spec
     Inv-loop
     μ-loop
-    least-requires
-    sub-least
-    least-requires-2
+    (λ c κs. search needs)
+    (λ c. search needs)
+    (λ c κs. search needs)
     loop-holds
-    mul-if1
-    element-copy-out-if1
-    add-if1
-    mul-if1-2
-    element-copy-out-if1-2
+    (λ c. search needs)
+    (λ c. search needs)
+    (λ c. search needs)
+    (λ c. search needs)
+    (λ c. search needs)
     returns
-    add-k
-    loop-less
+    (λ c. search needs)
+    (λ c. search needs)
     loop-again
     returns-2)

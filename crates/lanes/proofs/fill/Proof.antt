@@ -21,47 +21,8 @@ Inv-loop words committed bindings ask out₀ mask found₀ n i₀ out found i = 
 abbrev μ-loop : tie.MeasureT-loop
 μ-loop words committed bindings ask out₀ mask found₀ n i₀ out found i = n - i
 
-new-requires : tie.Need-new-requires Inv-loop μ-loop
-new-requires c κs = search needs
-
-end-requires : tie.Need-end-requires Inv-loop μ-loop
-end-requires c κs = search needs
-
 loop-holds : tie.Need-loop-holds Inv-loop μ-loop
 loop-holds c = (search needs, search needs, filled-none _ _, filled-none _ _)
-
-element-copy-out-answer-live : tie.Need-element-copy-out-answer-live Inv-loop μ-loop
-element-copy-out-answer-live c = search needs
-
-answer-live-requires : tie.Need-answer-live-requires Inv-loop μ-loop
-answer-live-requires c κs = search needs
-
-mul-word-or : tie.Need-mul-word-or Inv-loop μ-loop
-mul-word-or c = search needs
-
-slice-read-word-or : tie.Need-slice-read-word-or Inv-loop μ-loop
-slice-read-word-or c = search needs
-
-word-or-requires : tie.Need-word-or-requires Inv-loop μ-loop
-word-or-requires c κs = search needs
-
-mul-out : tie.Need-mul-out Inv-loop μ-loop
-mul-out c = search needs
-
-slice-write-out : tie.Need-slice-write-out Inv-loop μ-loop
-slice-write-out c = search needs
-
-is-word-requires : tie.Need-is-word-requires Inv-loop μ-loop
-is-word-requires c κs = search needs
-
-element-write-found : tie.Need-element-write-found Inv-loop μ-loop
-element-write-found c = search needs
-
-add-i : tie.Need-add-i Inv-loop μ-loop
-add-i c = search needs
-
-loop-less : tie.Need-loop-less Inv-loop μ-loop
-loop-less c = search needs
 
 loop-again : tie.Need-loop-again Inv-loop μ-loop
 loop-again c =
@@ -75,9 +36,6 @@ loop-again c =
       filled-turn (λ k. isSome (ask k)) (l .i) _ (l .found .live) _ false (l .inv .2) (c .is-word .ensures ∙ ap isSome (c .before .before .before .answer-live .ensures)) (omega arith),
       filled-turn f (l .i) (now (a .out)) (l .out) _ 0 (l .inv .3) (c .before .word-or .ensures ∙ rw (c .before .before .before .answer-live .ensures, word-before f (l .i) (now (a .out)) (l .out) (l .inv .3))) (omega (arith, c .before .before .before .before .before .before .before .before .before .before .before .before .before .pre .1)),
     )
-
-same-length : tie.Need-same-length Inv-loop μ-loop
-same-length c = search needs
 
 returns : tie.Need-returns Inv-loop μ-loop
 unfolding answeredLanes answeredWords
@@ -95,20 +53,20 @@ fill-spec =
     (tie.spec
     Inv-loop
     μ-loop
-    new-requires
-    end-requires
+    (λ c κs. search needs)
+    (λ c κs. search needs)
     loop-holds
-    element-copy-out-answer-live
-    answer-live-requires
-    mul-word-or
-    slice-read-word-or
-    word-or-requires
-    mul-out
-    slice-write-out
-    is-word-requires
-    element-write-found
-    add-i
-    loop-less
+    (λ c. search needs)
+    (λ c κs. search needs)
+    (λ c. search needs)
+    (λ c. search needs)
+    (λ c κs. search needs)
+    (λ c. search needs)
+    (λ c. search needs)
+    (λ c κs. search needs)
+    (λ c. search needs)
+    (λ c. search needs)
+    (λ c. search needs)
     loop-again
-    same-length
+    (λ c. search needs)
     returns)

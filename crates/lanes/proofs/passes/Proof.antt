@@ -4,27 +4,6 @@ use borrow.Author.Needs.{needs}
 use Rattle.lanes.proofs.passes.Statement.{statement}
 use Rattle.lanes.proofs.passes.Tie as tie
 
-enum-known-test : tie.Need-enum-known-test
-enum-known-test c = search needs
-
-value-requires : tie.Need-value-requires
-value-requires c κs = search needs
-
-value-requires-2 : tie.Need-value-requires-2
-value-requires-2 c κs = search needs
-
-enum-known-test-2 : tie.Need-enum-known-test-2
-enum-known-test-2 c = search needs
-
-value-requires-3 : tie.Need-value-requires-3
-value-requires-3 c κs = search needs
-
-value-requires-4 : tie.Need-value-requires-4
-value-requires-4 c κs = search needs
-
-enum-known-test-3 : tie.Need-enum-known-test-3
-enum-known-test-3 c = search needs
-
 fetch-requires : tie.Need-fetch-requires
 fetch-requires c κs = rw (c .before .test3 .given .1) at (c .before .before .before .before .before .pre)
 
@@ -48,13 +27,13 @@ pub passes-spec : {M : Type 1} → statement M
 passes-spec =
     tie.close
     (tie.spec
-    enum-known-test
-    value-requires
-    value-requires-2
-    enum-known-test-2
-    value-requires-3
-    value-requires-4
-    enum-known-test-3
+    (λ c. search needs)
+    (λ c κs. search needs)
+    (λ c κs. search needs)
+    (λ c. search needs)
+    (λ c κs. search needs)
+    (λ c κs. search needs)
+    (λ c. search needs)
     fetch-requires
     any-ne-requires
     returns

@@ -19,26 +19,8 @@ Inv-loop words bindings test mask n left₀ i₀ left i = (i ≤ n) × (left .li
 abbrev μ-loop : tie.MeasureT-loop
 μ-loop words bindings test mask n left₀ i₀ left i = n - i
 
-end-requires : tie.Need-end-requires Inv-loop μ-loop
-end-requires c κs = search needs
-
 loop-holds : tie.Need-loop-holds Inv-loop μ-loop
 loop-holds c = (search needs, filled-none _ _)
-
-element-copy-out-fails : tie.Need-element-copy-out-fails Inv-loop μ-loop
-element-copy-out-fails c = search needs
-
-fails-requires : tie.Need-fails-requires Inv-loop μ-loop
-fails-requires c κs = search needs
-
-drop-requires : tie.Need-drop-requires Inv-loop μ-loop
-drop-requires c κs = search needs
-
-add-i : tie.Need-add-i Inv-loop μ-loop
-add-i c = search needs
-
-loop-less : tie.Need-loop-less Inv-loop μ-loop
-loop-less c = search needs
 
 loop-again : tie.Need-loop-again Inv-loop μ-loop
 loop-again c =
@@ -70,12 +52,12 @@ retain-spec =
     (tie.spec
     Inv-loop
     μ-loop
-    end-requires
+    (λ c κs. search needs)
     loop-holds
-    element-copy-out-fails
-    fails-requires
-    drop-requires
-    add-i
-    loop-less
+    (λ c. search needs)
+    (λ c κs. search needs)
+    (λ c κs. search needs)
+    (λ c. search needs)
+    (λ c. search needs)
     loop-again
     returns)

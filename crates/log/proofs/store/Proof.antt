@@ -21,35 +21,11 @@ loop-holds : tie.Need-loop-holds Inv-loop μ-loop
 unfolding tab
 loop-holds c = search needs
 
-mul-log : tie.Need-mul-log Inv-loop μ-loop
-mul-log c = search needs
-
-element-copy-out-log : tie.Need-element-copy-out-log Inv-loop μ-loop
-element-copy-out-log c = search needs
-
-add-log : tie.Need-add-log Inv-loop μ-loop
-add-log c = search needs
-
-mul-log-2 : tie.Need-mul-log-2 Inv-loop μ-loop
-mul-log-2 c = search needs
-
-slice-write-log : tie.Need-slice-write-log Inv-loop μ-loop
-slice-write-log c = search needs
-
-add-i : tie.Need-add-i Inv-loop μ-loop
-add-i c = search needs
-
-loop-less : tie.Need-loop-less Inv-loop μ-loop
-loop-less c = search needs
-
 loop-again : tie.Need-loop-again Inv-loop μ-loop
 loop-again c =
     let l = c .before .before .loop in
     let a = c .before .before .before .args in
     (search needs, search needs, ap (λ (x : List ℕ). set x (a .at + l .i) (getD (now (a .row)) (l .i) 0)) (l .inv .2) ∙ store-more (λ j. getD (now (a .row)) j 0) (l .i) (now (a .log)) (a .at))
-
-same-length : tie.Need-same-length Inv-loop μ-loop
-same-length c = search needs
 
 returns : tie.Need-returns Inv-loop μ-loop
 returns c =
@@ -64,13 +40,13 @@ store-spec =
     Inv-loop
     μ-loop
     loop-holds
-    mul-log
-    element-copy-out-log
-    add-log
-    mul-log-2
-    slice-write-log
-    add-i
-    loop-less
+    (λ c. search needs)
+    (λ c. search needs)
+    (λ c. search needs)
+    (λ c. search needs)
+    (λ c. search needs)
+    (λ c. search needs)
+    (λ c. search needs)
     loop-again
-    same-length
+    (λ c. search needs)
     returns)

@@ -7,27 +7,9 @@ use Rattle.predict.proofs.predict_val.Tie as tie
 look-up-among-requires : tie.Need-look-up-among-requires
 look-up-among-requires c κs = (c .before .before .before .before .before .before .before .pre .0 .stands, c .before .before .before .before .before .before .before .pre .0 .indexed)
 
-enum-told : tie.Need-enum-told
-enum-told c = search needs
-
-enum-told-2 : tie.Need-enum-told-2
-enum-told-2 c = search needs
-
-get-or-insert-with-requires : tie.Need-get-or-insert-with-requires
-get-or-insert-with-requires c κs = search needs
-
-note-change-requires : tie.Need-note-change-requires
-note-change-requires c κs = search needs
-
 returns : tie.Need-returns
 unfolding answered
 returns c = (rw (← c .before .before .look-up-among .ensures, c .enum-told .given .1), c .before .before .before .before .before .before .before .before .before .before .pre .3 .used)
-
-same-length : tie.Need-same-length
-same-length c = search needs
-
-same-length-2 : tie.Need-same-length-2
-same-length-2 c = search needs
 
 returns-2 : tie.Need-returns-2
 unfolding answered
@@ -40,11 +22,11 @@ predict-val-spec =
     tie.close
     (tie.spec
     look-up-among-requires
-    enum-told
-    enum-told-2
-    get-or-insert-with-requires
-    note-change-requires
+    (λ c. search needs)
+    (λ c. search needs)
+    (λ c κs. search needs)
+    (λ c κs. search needs)
     returns
-    same-length
-    same-length-2
+    (λ c. search needs)
+    (λ c. search needs)
     returns-2)

@@ -8,33 +8,12 @@ use borrow.Author.Needs.{needs}
 use Rattle.predict.proofs.serve_lane.Statement.{statement}
 use Rattle.predict.proofs.serve_lane.Tie as tie
 
-going-requires : tie.Need-going-requires
-going-requires c κs = search needs
-
-fetch-requires : tie.Need-fetch-requires
-fetch-requires c κs = search needs
-
 get-or-insert-with-requires : tie.Need-get-or-insert-with-requires
 unfolding fetched
 get-or-insert-with-requires c κs =
     let p = c .before .before .before .before .before .before .before .before .before .before .before .pre in
     let n = ap (λ (x : Args). x .count) (c .before .before .fetch .ensures) in
     (p .2, p .0 .stands .few, omega (arith, p .1 .1), p .3)
-
-going-requires-2 : tie.Need-going-requires-2
-going-requires-2 c κs = search needs
-
-take-requires : tie.Need-take-requires
-take-requires c κs = search needs
-
-same-length : tie.Need-same-length
-same-length c = search needs
-
-same-length-2 : tie.Need-same-length-2
-same-length-2 c = search needs
-
-same-length-3 : tie.Need-same-length-3
-same-length-3 c = search needs
 
 returns : tie.Need-returns
 unfolding servedLane
@@ -51,13 +30,13 @@ pub serve-lane-spec : {M : Type 1} → statement M
 serve-lane-spec =
     tie.close
     (tie.spec
-    going-requires
-    fetch-requires
+    (λ c κs. search needs)
+    (λ c κs. search needs)
     get-or-insert-with-requires
-    going-requires-2
-    take-requires
-    same-length
-    same-length-2
-    same-length-3
+    (λ c κs. search needs)
+    (λ c κs. search needs)
+    (λ c. search needs)
+    (λ c. search needs)
+    (λ c. search needs)
     returns
     returns-2)

@@ -23,14 +23,8 @@ Inv-loop words committed bindings ask log₀ index₀ out₀ mask n s₀ i₀ lo
 abbrev μ-loop : tie.MeasureT-loop
 μ-loop words committed bindings ask log₀ index₀ out₀ mask n s₀ i₀ log index out s i = n - i
 
-end-requires : tie.Need-end-requires Inv-loop μ-loop
-end-requires c κs = search needs
-
 loop-holds : tie.Need-loop-holds Inv-loop μ-loop
 loop-holds c = (search needs, refl, refl, refl, search needs, refl)
-
-element-copy-out-serve-lane : tie.Need-element-copy-out-serve-lane Inv-loop μ-loop
-element-copy-out-serve-lane c = search needs
 
 serve-lane-requires : tie.Need-serve-lane-requires Inv-loop μ-loop
 serve-lane-requires c κs =
@@ -38,12 +32,6 @@ serve-lane-requires c κs =
     let v = c .before .before .before .before .before .loop .inv in
     let r = p .3 in
     (p .0, p .1, p .2, record { used = omega (arith, v .4, v .1); short = omega (arith, r .short, v .1); slots = v .2 ∙ r .slots }, omega (arith, c .before .before .before .before .loop-test .taken, p .4, v .3, c .before .before .before .before .before .before .end .ensures .1))
-
-add-i : tie.Need-add-i Inv-loop μ-loop
-add-i c = search needs
-
-loop-less : tie.Need-loop-less Inv-loop μ-loop
-loop-less c = search needs
 
 loop-again : tie.Need-loop-again Inv-loop μ-loop
 loop-again c =
@@ -58,15 +46,6 @@ loop-again c =
       iter-more _ (l .i) _ _ _ (l .inv .5) (r .ensures .0),
     )
 
-same-length : tie.Need-same-length Inv-loop μ-loop
-same-length c = search needs
-
-same-length-2 : tie.Need-same-length-2 Inv-loop μ-loop
-same-length-2 c = search needs
-
-same-length-3 : tie.Need-same-length-3 Inv-loop μ-loop
-same-length-3 c = search needs
-
 returns : tie.Need-returns Inv-loop μ-loop
 unfolding servedLanes servedLane
 returns c =
@@ -80,14 +59,14 @@ serve-lanes-spec =
     (tie.spec
     Inv-loop
     μ-loop
-    end-requires
+    (λ c κs. search needs)
     loop-holds
-    element-copy-out-serve-lane
+    (λ c. search needs)
     serve-lane-requires
-    add-i
-    loop-less
+    (λ c. search needs)
+    (λ c. search needs)
     loop-again
-    same-length
-    same-length-2
-    same-length-3
+    (λ c. search needs)
+    (λ c. search needs)
+    (λ c. search needs)
     returns)

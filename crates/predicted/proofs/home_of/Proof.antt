@@ -18,34 +18,13 @@ Inv-loop key k h₀ i₀ h i = (i ≤ k) × (h ≡ folded h₀ (front key i))
 abbrev μ-loop : tie.MeasureT-loop
 μ-loop key k h₀ i₀ h i = k - i
 
-mix-requires : tie.Need-mix-requires Inv-loop μ-loop
-mix-requires c κs = search needs
-
 loop-holds : tie.Need-loop-holds Inv-loop μ-loop
 loop-holds c = (search needs, folded-none (c .mix .result) (λ j. getD (now (c .before .args .key)) j 0))
-
-mul-mix : tie.Need-mul-mix Inv-loop μ-loop
-mul-mix c = search needs
-
-element-copy-out-mix : tie.Need-element-copy-out-mix Inv-loop μ-loop
-element-copy-out-mix c = search needs
-
-mix-requires-2 : tie.Need-mix-requires-2 Inv-loop μ-loop
-mix-requires-2 c κs = search needs
-
-add-i : tie.Need-add-i Inv-loop μ-loop
-add-i c = search needs
-
-loop-less : tie.Need-loop-less Inv-loop μ-loop
-loop-less c = search needs
 
 loop-again : tie.Need-loop-again Inv-loop μ-loop
 loop-again c =
     let l = c .before .before .before .loop in
     (search needs, folded-more (c .before .before .before .before .mix .result) (λ j. getD (now (c .before .before .before .before .before .args .key)) j 0) (l .i) (l .h) (c .mix2 .result) (l .inv .1) (c .mix2 .ensures))
-
-size-requires : tie.Need-size-requires Inv-loop μ-loop
-size-requires c κs = search needs
 
 returns : tie.Need-returns Inv-loop μ-loop
 unfolding homeOf folded
@@ -62,13 +41,13 @@ home-of-spec =
     (tie.spec
     Inv-loop
     μ-loop
-    mix-requires
+    (λ c κs. search needs)
     loop-holds
-    mul-mix
-    element-copy-out-mix
-    mix-requires-2
-    add-i
-    loop-less
+    (λ c. search needs)
+    (λ c. search needs)
+    (λ c κs. search needs)
+    (λ c. search needs)
+    (λ c. search needs)
     loop-again
-    size-requires
+    (λ c κs. search needs)
     returns)

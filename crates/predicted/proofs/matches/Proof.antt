@@ -4,31 +4,13 @@ use borrow.Author.Needs.{needs}
 use Rattle.predicted.proofs.matches.Statement.{statement}
 use Rattle.predicted.proofs.matches.Tie as tie
 
-add-if1 : tie.Need-add-if1
-add-if1 c = search needs
-
-add-if1-2 : tie.Need-add-if1-2
-add-if1-2 c = search needs
-
 returns : tie.Need-returns
 unfolding answers
 returns c = rw (lt-leb _ _ (c .if1 .taken))
 
-mul-if2 : tie.Need-mul-if2
-mul-if2 c = search needs
-
-shared-slice-read-if2 : tie.Need-shared-slice-read-if2
-shared-slice-read-if2 c = search needs
-
 returns-2 : tie.Need-returns-2
 unfolding answers
 returns-2 c = rw (le-leb _ _ (c .before .before .before .if1 .left), ne-eqb _ _ (c .if2 .taken))
-
-add-same-words : tie.Need-add-same-words
-add-same-words c = search needs
-
-same-words-requires : tie.Need-same-words-requires
-same-words-requires c κs = search needs
 
 returns-3 : tie.Need-returns-3
 unfolding answers
@@ -38,12 +20,12 @@ pub matches-spec : {M : Type 1} → statement M
 matches-spec =
     tie.close
     (tie.spec
-    add-if1
-    add-if1-2
+    (λ c. search needs)
+    (λ c. search needs)
     returns
-    mul-if2
-    shared-slice-read-if2
+    (λ c. search needs)
+    (λ c. search needs)
     returns-2
-    add-same-words
-    same-words-requires
+    (λ c. search needs)
+    (λ c κs. search needs)
     returns-3)

@@ -24,9 +24,6 @@ abbrev μ-loop : tie.MeasureT-loop
 sizes-of-requires : tie.Need-sizes-of-requires Inv-loop μ-loop
 sizes-of-requires c κs = contents-ok (now (c .before .args .words)) (c .before .pre) .counted .most
 
-size-at-requires : tie.Need-size-at-requires Inv-loop μ-loop
-size-at-requires c κs = search needs
-
 loop-holds : tie.Need-loop-holds Inv-loop μ-loop
 loop-holds c = (search needs, λ j h. absurd (omega arith))
 
@@ -35,19 +32,10 @@ body-requires c κs =
     let z = c .before .before .before .sizes-of .ensures in
     record { contents = c .before .before .before .before .before .pre; below = omega arith; isSizes = rw (z .tables, z .counters, z .rules) }
 
-enum-told : tie.Need-enum-told Inv-loop μ-loop
-enum-told c = search needs
-
 returns : tie.Need-returns Inv-loop μ-loop
 returns c =
     let l = c .before .before .before .loop in
     bodies-refused (now (c .before .before .before .before .before .before .before .args .words)) (c .before .body .result) (l .i) (λ e. miss (1 ∷ 2 ∷ 3 ∷ 4 ∷ 5 ∷ []) 0 tt (rw e at (c .match .keys2))) (omega arith) (l .inv .1) (c .before .body .ensures)
-
-add-i : tie.Need-add-i Inv-loop μ-loop
-add-i c = search needs
-
-loop-less : tie.Need-loop-less Inv-loop μ-loop
-loop-less c = search needs
 
 loop-again : tie.Need-loop-again Inv-loop μ-loop
 loop-again c =
@@ -67,12 +55,12 @@ all-bodies-spec =
     Inv-loop
     μ-loop
     sizes-of-requires
-    size-at-requires
+    (λ c κs. search needs)
     loop-holds
     body-requires
-    enum-told
+    (λ c. search needs)
     returns
-    add-i
-    loop-less
+    (λ c. search needs)
+    (λ c. search needs)
     loop-again
     returns-2)

@@ -9,12 +9,6 @@ use Rattle.reader.proofs.body.Tie as tie
 walk-requires : tie.Need-walk-requires
 walk-requires c κs = (few (c .before .pre), c .before .pre .isSizes)
 
-enum-told : tie.Need-enum-told
-enum-told c = search needs
-
-enum-known-absent : tie.Need-enum-known-absent
-enum-known-absent c = search needs
-
 returns : tie.Need-returns
 returns c = body-six (c .before .before .before .before .before .before .pre) (sym (ap scanOf (c .before .before .absent .given .1)) ∙ c .before .before .before .before .walk .ensures) (c .if1 .taken)
 
@@ -44,8 +38,8 @@ body-spec =
     tie.close
     (tie.spec
     walk-requires
-    enum-told
-    enum-known-absent
+    (λ c. search needs)
+    (λ c. search needs)
     returns
     returns-2
     kind-of-requires

@@ -4,23 +4,8 @@ use borrow.Author.Needs.{needs}
 use Rattle.reader.proofs.read.Statement.{statement}
 use Rattle.reader.proofs.read.Tie as tie
 
-check-requires : tie.Need-check-requires
-check-requires c κs = search needs
-
-enum-told : tie.Need-enum-told
-enum-told c = search needs
-
 all-bodies-requires : tie.Need-all-bodies-requires
 all-bodies-requires c κs = sym (c .before .before .check .ensures) ∙ ap contents.refusalOf (c .enum-told .given .1)
-
-enum-told-2 : tie.Need-enum-told-2
-enum-told-2 c = search needs
-
-enum-known-i : tie.Need-enum-known-i
-enum-known-i c = search needs
-
-enum-told-3 : tie.Need-enum-told-3
-enum-told-3 c = search needs
 
 returns : tie.Need-returns
 returns c = rw (← c .before .before .before .check .ensures, c .before .enum-told .given .1) (c .all-bodies .ensures)
@@ -38,12 +23,12 @@ pub read-spec : {M : Type 1} → statement M
 read-spec =
     tie.close
     (tie.spec
-    check-requires
-    enum-told
+    (λ c κs. search needs)
+    (λ c. search needs)
     all-bodies-requires
-    enum-told-2
-    enum-known-i
-    enum-told-3
+    (λ c. search needs)
+    (λ c. search needs)
+    (λ c. search needs)
     returns
     returns-2
     returns-3

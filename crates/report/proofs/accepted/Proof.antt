@@ -8,21 +8,6 @@ use borrow.Author.Needs.{needs}
 use Rattle.report.proofs.accepted.Statement.{statement}
 use Rattle.report.proofs.accepted.Tie as tie
 
-numbered-requires : tie.Need-numbered-requires
-numbered-requires c κs = search needs
-
-log-requires : tie.Need-log-requires
-log-requires c κs = search needs
-
-numbered-requires-2 : tie.Need-numbered-requires-2
-numbered-requires-2 c κs = search needs
-
-numbered-requires-3 : tie.Need-numbered-requires-3
-numbered-requires-3 c κs = search needs
-
-same-length : tie.Need-same-length
-same-length c = search needs
-
 returns : tie.Need-returns
 returns c =
     let a = c .before .before .before .before .before .before .before .before .before .before .before .before .before .before .before .before .before .before .args in
@@ -33,9 +18,9 @@ pub accepted-spec : {M : Type 1} → statement M
 accepted-spec =
     tie.close
     (tie.spec
-    numbered-requires
-    log-requires
-    numbered-requires-2
-    numbered-requires-3
-    same-length
+    (λ c κs. search needs)
+    (λ c κs. search needs)
+    (λ c κs. search needs)
+    (λ c κs. search needs)
+    (λ c. search needs)
     returns)

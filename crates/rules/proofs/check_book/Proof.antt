@@ -7,25 +7,10 @@ use borrow.Author.Needs.{needs}
 use Rattle.rules.proofs.check_book.Statement.{statement}
 use Rattle.rules.proofs.check_book.Tie as tie
 
-check-rules-requires : tie.Need-check-rules-requires
-check-rules-requires c κs = search needs
-
-is-refusal-requires : tie.Need-is-refusal-requires
-is-refusal-requires c κs = search needs
-
-verdict-requires : tie.Need-verdict-requires
-verdict-requires c κs = search needs
-
 returns : tie.Need-returns
 returns c =
     let w = now (c .before .before .before .before .before .args .words) in
     c .verdict .ensures ∙ c .before .before .before .check-rules .ensures ∙ else-stop (rulesRefusal w) (stepsRefusal w) (c .before .before .before .check-rules .result) (c .before .before .before .check-rules .ensures) (sym (c .before .before .is-refusal .ensures) ∙ c .before .if1 .taken)
-
-fit-steps-requires : tie.Need-fit-steps-requires
-fit-steps-requires c κs = search needs
-
-verdict-requires-2 : tie.Need-verdict-requires-2
-verdict-requires-2 c κs = search needs
 
 returns-2 : tie.Need-returns-2
 returns-2 c =
@@ -36,10 +21,10 @@ pub check-book-spec : {M : Type 1} → statement M
 check-book-spec =
     tie.close
     (tie.spec
-    check-rules-requires
-    is-refusal-requires
-    verdict-requires
+    (λ c κs. search needs)
+    (λ c κs. search needs)
+    (λ c κs. search needs)
     returns
-    fit-steps-requires
-    verdict-requires-2
+    (λ c κs. search needs)
+    (λ c κs. search needs)
     returns-2)

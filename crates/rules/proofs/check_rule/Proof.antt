@@ -47,27 +47,6 @@ first-of-requires c κs =
     let q = c .before .pre in
     omega (arith, q .1, rule-entry (now (a .words)) (q .0) (a .r) (q .2))
 
-word-requires : tie.Need-word-requires Inv-loop μ-loop
-word-requires c κs = search needs
-
-size-requires : tie.Need-size-requires Inv-loop μ-loop
-size-requires c κs = search needs
-
-add-word : tie.Need-add-word Inv-loop μ-loop
-add-word c = search needs
-
-word-requires-2 : tie.Need-word-requires-2 Inv-loop μ-loop
-word-requires-2 c κs = search needs
-
-size-requires-2 : tie.Need-size-requires-2 Inv-loop μ-loop
-size-requires-2 c κs = search needs
-
-first-requires : tie.Need-first-requires Inv-loop μ-loop
-first-requires c κs = search needs
-
-add-p : tie.Need-add-p Inv-loop μ-loop
-add-p c = search needs
-
 loop-holds : tie.Need-loop-holds Inv-loop μ-loop
 loop-holds c =
     let a = c .before .before .before .before .before .before .before .args in
@@ -96,9 +75,6 @@ here c =
 check-instr-requires : tie.Need-check-instr-requires Inv-loop μ-loop
 check-instr-requires c κs = (c .before .before .before .before .before .before .before .before .before .before .pre .0, stands-here (here c))
 
-is-refusal-requires : tie.Need-is-refusal-requires Inv-loop μ-loop
-is-refusal-requires c κs = search needs
-
 returns : tie.Need-returns Inv-loop μ-loop
 returns c =
     let l = c .before .before .before .before .before .loop in
@@ -109,12 +85,6 @@ bind-dst-requires c κs = binds-variable (now (c .before .before .before .before
 
 next-requires : tie.Need-next-requires Inv-loop μ-loop
 next-requires c κs = small-here (here (c .before .before .before .before))
-
-add-j : tie.Need-add-j Inv-loop μ-loop
-add-j c = search needs
-
-loop-less : tie.Need-loop-less Inv-loop μ-loop
-loop-less c = search needs
 
 loop-again : tie.Need-loop-again Inv-loop μ-loop
 loop-again c =
@@ -144,21 +114,21 @@ check-rule-spec =
     μ-loop
     add-first-of
     first-of-requires
-    word-requires
-    size-requires
-    add-word
-    word-requires-2
-    size-requires-2
-    first-requires
-    add-p
+    (λ c κs. search needs)
+    (λ c κs. search needs)
+    (λ c. search needs)
+    (λ c κs. search needs)
+    (λ c κs. search needs)
+    (λ c κs. search needs)
+    (λ c. search needs)
     loop-holds
     instr-at-requires
     check-instr-requires
-    is-refusal-requires
+    (λ c κs. search needs)
     returns
     bind-dst-requires
     next-requires
-    add-j
-    loop-less
+    (λ c. search needs)
+    (λ c. search needs)
     loop-again
     returns-2)

@@ -21,18 +21,6 @@ abbrev μ-loop : tie.MeasureT-loop
 sizes-of-requires : tie.Need-sizes-of-requires Inv-loop μ-loop
 sizes-of-requires c κs = few-entries (now (c .before .args .words)) (c .before .pre)
 
-size-requires : tie.Need-size-requires Inv-loop μ-loop
-size-requires c κs = search needs
-
-size-requires-2 : tie.Need-size-requires-2 Inv-loop μ-loop
-size-requires-2 c κs = search needs
-
-add-base : tie.Need-add-base Inv-loop μ-loop
-add-base c = search needs
-
-size-requires-3 : tie.Need-size-requires-3 Inv-loop μ-loop
-size-requires-3 c κs = search needs
-
 loop-holds : tie.Need-loop-holds Inv-loop μ-loop
 loop-holds c =
     let z = c .before .before .before .sizes-of .ensures in
@@ -43,19 +31,10 @@ check-rule-requires c κs =
     let a = c .before .loop in
     (c .before .before .before .before .before .before .before .pre, a .inv .0, omega (arith, a .inv .1, c .loop-test .taken))
 
-is-refusal-requires : tie.Need-is-refusal-requires Inv-loop μ-loop
-is-refusal-requires c κs = search needs
-
 returns : tie.Need-returns Inv-loop μ-loop
 returns c =
     let a = c .before .before .before .before .loop in
     rules-stop (now (c .before .before .before .before .before .before .before .before .before .before .args .words)) (a .r) (c .before .before .check-rule .result) (omega (arith, a .inv .1, c .before .before .before .loop-test .taken)) (a .inv .3) (sym (c .before .is-refusal .ensures) ∙ c .if1 .taken) (c .before .before .check-rule .ensures)
-
-add-r : tie.Need-add-r Inv-loop μ-loop
-add-r c = search needs
-
-loop-less : tie.Need-loop-less Inv-loop μ-loop
-loop-less c = search needs
 
 loop-again : tie.Need-loop-again Inv-loop μ-loop
 loop-again c =
@@ -75,15 +54,15 @@ check-rules-spec =
     Inv-loop
     μ-loop
     sizes-of-requires
-    size-requires
-    size-requires-2
-    add-base
-    size-requires-3
+    (λ c κs. search needs)
+    (λ c κs. search needs)
+    (λ c. search needs)
+    (λ c κs. search needs)
     loop-holds
     check-rule-requires
-    is-refusal-requires
+    (λ c κs. search needs)
     returns
-    add-r
-    loop-less
+    (λ c. search needs)
+    (λ c. search needs)
     loop-again
     returns-2)

@@ -6,33 +6,12 @@ use borrow.Author.Needs.{needs}
 use Rattle.rules.proofs.first_refusal.Statement.{statement}
 use Rattle.rules.proofs.first_refusal.Tie as tie
 
-read-requires : tie.Need-read-requires
-read-requires c κs = search needs
-
-enum-told : tie.Need-enum-told
-enum-told c = search needs
-
 check-book-requires : tie.Need-check-book-requires
 check-book-requires c κs =
     let q = c .before .before .before .before .pre in
     let w = now (c .before .before .before .before .args .words) in
     let n = none-read w (sym (ap refusalOf (c .enum-told .given .1)) ∙ c .before .before .read .ensures) in
     record { one = q .0; most = q .1; contents = n .0; bodies = n .1 }
-
-enum-known-i : tie.Need-enum-known-i
-enum-known-i c = search needs
-
-enum-known-i-2 : tie.Need-enum-known-i-2
-enum-known-i-2 c = search needs
-
-enum-known-p : tie.Need-enum-known-p
-enum-known-p c = search needs
-
-enum-known-p-2 : tie.Need-enum-known-p-2
-enum-known-p-2 c = search needs
-
-enum-known-p-3 : tie.Need-enum-known-p-3
-enum-known-p-3 c = search needs
 
 returns : tie.Need-returns
 returns c = c .check-book .ensures ∙ words-on (now (c .before .before .before .before .before .args .words)) (sym (ap refusalOf (c .before .enum-told .given .1)) ∙ c .before .before .before .read .ensures)
@@ -56,14 +35,14 @@ pub first-refusal-spec : {M : Type 1} → statement M
 first-refusal-spec =
     tie.close
     (tie.spec
-    read-requires
-    enum-told
+    (λ c κs. search needs)
+    (λ c. search needs)
     check-book-requires
-    enum-known-i
-    enum-known-i-2
-    enum-known-p
-    enum-known-p-2
-    enum-known-p-3
+    (λ c. search needs)
+    (λ c. search needs)
+    (λ c. search needs)
+    (λ c. search needs)
+    (λ c. search needs)
     returns
     returns-2
     returns-3

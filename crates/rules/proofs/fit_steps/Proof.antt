@@ -22,24 +22,6 @@ abbrev μ-loop : tie.MeasureT-loop
 sizes-of-requires : tie.Need-sizes-of-requires Inv-loop μ-loop
 sizes-of-requires c κs = few-entries (now (c .before .args .words)) (c .before .pre)
 
-size-requires : tie.Need-size-requires Inv-loop μ-loop
-size-requires c κs = search needs
-
-size-requires-2 : tie.Need-size-requires-2 Inv-loop μ-loop
-size-requires-2 c κs = search needs
-
-add-base : tie.Need-add-base Inv-loop μ-loop
-add-base c = search needs
-
-size-requires-3 : tie.Need-size-requires-3 Inv-loop μ-loop
-size-requires-3 c κs = search needs
-
-add-steps : tie.Need-add-steps Inv-loop μ-loop
-add-steps c = search needs
-
-size-requires-4 : tie.Need-size-requires-4 Inv-loop μ-loop
-size-requires-4 c κs = search needs
-
 loop-holds : tie.Need-loop-holds Inv-loop μ-loop
 loop-holds c =
     let z = c .before .before .before .before .sizes-of .ensures in
@@ -50,20 +32,11 @@ step-fits-requires c κs =
     let a = c .before .loop in
     (c .before .before .before .before .before .before .before .before .pre, a .inv .0, a .inv .1, omega (arith, a .inv .2, c .loop-test .taken))
 
-add-t11 : tie.Need-add-t11 Inv-loop μ-loop
-add-t11 c = search needs
-
 returns : tie.Need-returns Inv-loop μ-loop
 returns c =
     let a = c .before .before .before .loop in
     let w = now (c .before .before .before .before .before .before .before .before .before .before .args .words) in
     rw (a .inv .1) (steps-stop w (a .k) (omega (arith, a .inv .2, c .before .before .loop-test .taken)) (a .inv .4) (sym (c .before .step-fits .ensures) ∙ not-true _ (c .if1 .taken)))
-
-add-k : tie.Need-add-k Inv-loop μ-loop
-add-k c = search needs
-
-loop-less : tie.Need-loop-less Inv-loop μ-loop
-loop-less c = search needs
 
 loop-again : tie.Need-loop-again Inv-loop μ-loop
 loop-again c =
@@ -83,17 +56,17 @@ fit-steps-spec =
     Inv-loop
     μ-loop
     sizes-of-requires
-    size-requires
-    size-requires-2
-    add-base
-    size-requires-3
-    add-steps
-    size-requires-4
+    (λ c κs. search needs)
+    (λ c κs. search needs)
+    (λ c. search needs)
+    (λ c κs. search needs)
+    (λ c. search needs)
+    (λ c κs. search needs)
     loop-holds
     step-fits-requires
-    add-t11
+    (λ c. search needs)
     returns
-    add-k
-    loop-less
+    (λ c. search needs)
+    (λ c. search needs)
     loop-again
     returns-2)

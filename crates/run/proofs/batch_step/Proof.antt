@@ -24,29 +24,11 @@ most c =
     let r = c .before .before .before .before .before .before .before .before .before .before .before .before .run-batch in
     omega (arith, c .write-batch .ensures .1, batch-most (r .result .bindings .matches) (r .result .bindings .bound .known) (r .last .1 .1 .1 .1 .1 .0) (few (c .before .before .before .before .before .before .before .before .before .before .before .before)) (r .kept .1 .1 .1 .1 .1 .0 ∙ c .before .before .before .before .before .before .before .before .before .before .before .before .before .before .before .before .before .before .before .before .before .before .before .pre .7) (r .result .mask .live))
 
-run-batch-requires : tie.Need-run-batch-requires
-run-batch-requires c κs = search needs
-
-going-requires : tie.Need-going-requires
-going-requires c κs = search needs
-
 write-batch-requires : tie.Need-write-batch-requires
 write-batch-requires c κs = let q = c .before .before .before .before .before .before .before .before .before .before .before .before .before .before .before .before .before .before .before .before .before .before .pre in (search needs, few (c .before .before .before .before .before .before .before .before .before .before .before), omega (arith, q .5 .at))
 
 advance-requires : tie.Need-advance-requires
 advance-requires c κs = let q = c .before .before .before .before .before .before .before .before .before .before .before .before .before .before .before .before .before .before .before .before .before .before .before .before .before .pre in (q .5 .done, omega (arith, c .before .before .write-batch .ensures .1), omega (arith, most (c .before .before), q .5 .at))
-
-same-length : tie.Need-same-length
-same-length c = search needs
-
-same-length-2 : tie.Need-same-length-2
-same-length-2 c = search needs
-
-same-length-3 : tie.Need-same-length-3
-same-length-3 c = search needs
-
-same-length-4 : tie.Need-same-length-4
-same-length-4 c = search needs
 
 returns : tie.Need-returns
 unfolding batchStep
@@ -60,18 +42,6 @@ returns c =
           ∙ ap (λ (x : Running). batchTold x A) (r .ensures .0),
       subst (λ (x : Progress). (x .state .used ≤ length (now (a .log))) × (x .done ≤ a .p .done + 1) × (x .at ≤ a .p .at + 8483)) (sym (c .advance .ensures)) (r .ensures .1, omega arith, most (c .before .before .before)),
     )
-
-halt-requires : tie.Need-halt-requires
-halt-requires c κs = search needs
-
-same-length-5 : tie.Need-same-length-5
-same-length-5 c = search needs
-
-same-length-6 : tie.Need-same-length-6
-same-length-6 c = search needs
-
-same-length-7 : tie.Need-same-length-7
-same-length-7 c = search needs
 
 returns-2 : tie.Need-returns-2
 unfolding batchStep
@@ -89,17 +59,17 @@ pub batch-step-spec : {M : Type 1} → statement M
 batch-step-spec =
     tie.close
     (tie.spec
-    run-batch-requires
-    going-requires
+    (λ c κs. search needs)
+    (λ c κs. search needs)
     write-batch-requires
     advance-requires
-    same-length
-    same-length-2
-    same-length-3
-    same-length-4
+    (λ c. search needs)
+    (λ c. search needs)
+    (λ c. search needs)
+    (λ c. search needs)
     returns
-    halt-requires
-    same-length-5
-    same-length-6
-    same-length-7
+    (λ c κs. search needs)
+    (λ c. search needs)
+    (λ c. search needs)
+    (λ c. search needs)
     returns-2)

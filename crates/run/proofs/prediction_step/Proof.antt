@@ -21,29 +21,8 @@ most c =
     let r = c .before .before .before .before .before .before .before .before .before .before .before .before .run-prediction in
     omega (arith, c .write-prediction .ensures .1, ap length (c .before .before .row-answered .ensures), row-most (q .0) (q .2) (q .3) (r .last .1 .1 .1 .1 .1 .0) (r .last .1 .1 .1 .1 .1 .1 .0))
 
-run-prediction-requires : tie.Need-run-prediction-requires
-run-prediction-requires c κs = search needs
-
-going-requires : tie.Need-going-requires
-going-requires c κs = search needs
-
-row-answered-requires : tie.Need-row-answered-requires
-row-answered-requires c κs = search needs
-
-write-prediction-requires : tie.Need-write-prediction-requires
-write-prediction-requires c κs = search needs
-
 advance-requires : tie.Need-advance-requires
 advance-requires c κs = let q = c .before .before .before .before .before .before .before .before .before .before .before .before .before .before .before .before .before .before .before .before .before .before .before .before .pre in (q .4 .done, omega (arith, c .before .before .write-prediction .ensures .1), omega (arith, most (c .before .before), q .4 .at))
-
-same-length : tie.Need-same-length
-same-length c = search needs
-
-same-length-2 : tie.Need-same-length-2
-same-length-2 c = search needs
-
-same-length-3 : tie.Need-same-length-3
-same-length-3 c = search needs
 
 returns : tie.Need-returns
 unfolding predictionStep
@@ -60,15 +39,6 @@ returns c =
           ∙ ap (λ (x : Gotten). rowTold w (firstOf w (a .i)) x A) (r .ensures .0),
       subst (λ (x : Progress). (x .state .used ≤ length (now (a .log))) × (x .done ≤ a .p .done + 1) × (x .at ≤ a .p .at + 8483)) (sym (c .advance .ensures)) (r .ensures .1, omega arith, omega (arith, most (c .before .before .before))),
     )
-
-halt-requires : tie.Need-halt-requires
-halt-requires c κs = search needs
-
-same-length-4 : tie.Need-same-length-4
-same-length-4 c = search needs
-
-same-length-5 : tie.Need-same-length-5
-same-length-5 c = search needs
 
 returns-2 : tie.Need-returns-2
 unfolding predictionStep
@@ -87,16 +57,16 @@ pub prediction-step-spec : {M : Type 1} → statement M
 prediction-step-spec =
     tie.close
     (tie.spec
-    run-prediction-requires
-    going-requires
-    row-answered-requires
-    write-prediction-requires
+    (λ c κs. search needs)
+    (λ c κs. search needs)
+    (λ c κs. search needs)
+    (λ c κs. search needs)
     advance-requires
-    same-length
-    same-length-2
-    same-length-3
+    (λ c. search needs)
+    (λ c. search needs)
+    (λ c. search needs)
     returns
-    halt-requires
-    same-length-4
-    same-length-5
+    (λ c κs. search needs)
+    (λ c. search needs)
+    (λ c. search needs)
     returns-2)

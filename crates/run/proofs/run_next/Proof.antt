@@ -16,9 +16,6 @@ use Rattle.run.proofs.run_next.Tie as tie
 here : (w : List ℕ) (first k : ℕ) → first ≡ firstStep w → k < stepCount w → IsStep w (first + k)
 here w first k e l = record { number = k; below = l; entry = ap (λ (f : ℕ). f + k) e }
 
-going-requires : tie.Need-going-requires
-going-requires c κs = search needs
-
 add-i : tie.Need-add-i
 add-i c =
     let a = c .before .before .before .before .before .before .before .before .before .before .args in
@@ -37,18 +34,6 @@ batch-step-requires c κs =
     let q = c .before .before .before .before .before .before .before .before .before .before .before .before .before .before .before .before .pre in
     (q .0, q .1, q .2, here (now (a .words)) (a .first) (a .p .done) (q .3) (q .4), sym (c .before .before .before .before .before .kind-of .ensures) ∙ c .before .before .before .before .if2 .taken, q .5, q .6, q .7)
 
-same-length : tie.Need-same-length
-same-length c = search needs
-
-same-length-2 : tie.Need-same-length-2
-same-length-2 c = search needs
-
-same-length-3 : tie.Need-same-length-3
-same-length-3 c = search needs
-
-same-length-4 : tie.Need-same-length-4
-same-length-4 c = search needs
-
 returns : tie.Need-returns
 returns c =
     let a = c .before .before .before .before .before .before .before .before .before .before .before .before .before .before .before .before .before .before .before .before .before .before .before .before .before .args in
@@ -62,18 +47,6 @@ prediction-step-requires c κs =
     let q = c .before .before .before .before .before .before .before .before .before .before .before .before .before .before .before .before .pre in
     let s = here (now (a .words)) (a .first) (a .p .done) (q .3) (q .4) in
     (q .0, q .1, s, not-batch (q .0) s (λ e. c .before .before .before .before .if2 .left (c .before .before .before .before .before .kind-of .ensures ∙ e)), q .5, q .6)
-
-same-length-5 : tie.Need-same-length-5
-same-length-5 c = search needs
-
-same-length-6 : tie.Need-same-length-6
-same-length-6 c = search needs
-
-same-length-7 : tie.Need-same-length-7
-same-length-7 c = search needs
-
-same-length-8 : tie.Need-same-length-8
-same-length-8 c = search needs
 
 returns-2 : tie.Need-returns-2
 returns-2 c =
@@ -94,19 +67,19 @@ pub run-next-spec : {M : Type 1} → statement M
 run-next-spec =
     tie.close
     (tie.spec
-    going-requires
+    (λ c κs. search needs)
     add-i
     kind-of-requires
     batch-step-requires
-    same-length
-    same-length-2
-    same-length-3
-    same-length-4
+    (λ c. search needs)
+    (λ c. search needs)
+    (λ c. search needs)
+    (λ c. search needs)
     returns
     prediction-step-requires
-    same-length-5
-    same-length-6
-    same-length-7
-    same-length-8
+    (λ c. search needs)
+    (λ c. search needs)
+    (λ c. search needs)
+    (λ c. search needs)
     returns-2
     returns-3)

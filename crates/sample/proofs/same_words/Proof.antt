@@ -15,32 +15,8 @@ Inv-loop sample at answer i₀ i = (i ≤ length answer) × ((k : ℕ) → k < i
 abbrev μ-loop : tie.MeasureT-loop
 μ-loop sample at answer i₀ i = length answer - i
 
-loop-holds : tie.Need-loop-holds Inv-loop μ-loop
-loop-holds c = search needs
-
-add-word : tie.Need-add-word Inv-loop μ-loop
-add-word c = search needs
-
-word-requires : tie.Need-word-requires Inv-loop μ-loop
-word-requires c κs = search needs
-
-mul-size : tie.Need-mul-size Inv-loop μ-loop
-mul-size c = search needs
-
-shared-slice-read-size : tie.Need-shared-slice-read-size Inv-loop μ-loop
-shared-slice-read-size c = search needs
-
-size-requires : tie.Need-size-requires Inv-loop μ-loop
-size-requires c κs = search needs
-
 returns : tie.Need-returns Inv-loop μ-loop
 returns c told = absurd (false≢true told)
-
-add-i : tie.Need-add-i Inv-loop μ-loop
-add-i c = search needs
-
-loop-less : tie.Need-loop-less Inv-loop μ-loop
-loop-less c = search needs
 
 loop-again : tie.Need-loop-again Inv-loop μ-loop
 loop-again c = (search needs, below-more _ _ (c .before .before .before .before .before .loop .inv .1) (sym (c .before .before .before .word .ensures .0) ∙ c .if1 .left ∙ c .before .size .ensures .0))
@@ -54,14 +30,14 @@ same-words-spec =
     (tie.spec
     Inv-loop
     μ-loop
-    loop-holds
-    add-word
-    word-requires
-    mul-size
-    shared-slice-read-size
-    size-requires
+    (λ c. search needs)
+    (λ c. search needs)
+    (λ c κs. search needs)
+    (λ c. search needs)
+    (λ c. search needs)
+    (λ c κs. search needs)
     returns
-    add-i
-    loop-less
+    (λ c. search needs)
+    (λ c. search needs)
     loop-again
     returns-2)

@@ -8,18 +8,6 @@ use Rattle.steps.proofs.key_asked.Tie as tie
 first-of-requires : tie.Need-first-of-requires
 first-of-requires c κs = let q = c .before .pre in omega (arith, entry-small (q .0) (q .1))
 
-add-word : tie.Need-add-word
-add-word c = search needs
-
-word-requires : tie.Need-word-requires
-word-requires c κs = search needs
-
-size-requires : tie.Need-size-requires
-size-requires c κs = search needs
-
-add-words-at : tie.Need-add-words-at
-add-words-at c = search needs
-
 words-at-requires : tie.Need-words-at-requires
 words-at-requires c κs =
     let q = c .before .before .before .before .pre in
@@ -35,9 +23,9 @@ key-asked-spec =
     tie.close
     (tie.spec
     first-of-requires
-    add-word
-    word-requires
-    size-requires
-    add-words-at
+    (λ c. search needs)
+    (λ c κs. search needs)
+    (λ c κs. search needs)
+    (λ c. search needs)
     words-at-requires
     returns)

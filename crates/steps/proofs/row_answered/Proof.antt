@@ -9,12 +9,6 @@ use Rattle.steps.proofs.row_answered.Tie as tie
 first-of-requires : tie.Need-first-of-requires
 first-of-requires c κs = let q = c .before .before .before .before .pre in omega (arith, entry-small (q .0) (q .2))
 
-word-requires : tie.Need-word-requires
-word-requires c κs = search needs
-
-of-requires : tie.Need-of-requires
-of-requires c κs = search needs
-
 key-asked-requires : tie.Need-key-asked-requires
 key-asked-requires c κs = let q = c .before .before .before .before .before .before .before .pre in (q .0, q .2, q .3)
 
@@ -32,8 +26,8 @@ row-answered-spec =
     tie.close
     (tie.spec
     first-of-requires
-    word-requires
-    of-requires
+    (λ c κs. search needs)
+    (λ c κs. search needs)
     key-asked-requires
     row-of-requires
     returns)

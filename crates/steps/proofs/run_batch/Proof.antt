@@ -16,36 +16,6 @@ first-of-requires c κs =
     let q = c .before .before .before .before .before .pre in
     omega (arith, entry-small (q .0) (q .3))
 
-word-requires : tie.Need-word-requires
-word-requires c κs = search needs
-
-size-requires : tie.Need-size-requires
-size-requires c κs = search needs
-
-add-word : tie.Need-add-word
-add-word c = search needs
-
-word-requires-2 : tie.Need-word-requires-2
-word-requires-2 c κs = search needs
-
-size-requires-2 : tie.Need-size-requires-2
-size-requires-2 c κs = search needs
-
-add-word-2 : tie.Need-add-word-2
-add-word-2 c = search needs
-
-word-requires-3 : tie.Need-word-requires-3
-word-requires-3 c κs = search needs
-
-lane-count-requires : tie.Need-lane-count-requires
-lane-count-requires c κs = search needs
-
-clear-requires : tie.Need-clear-requires
-clear-requires c κs = search needs
-
-add-load : tie.Need-add-load
-add-load c = search needs
-
 load-requires : tie.Need-load-requires
 load-requires c κs =
     let q = c .before .before .before .before .before .before .before .before .before .before .before .before .before .before .before .before .before .pre in
@@ -53,15 +23,6 @@ load-requires c κs =
     let v = c .before .before .before .before .before .before .word3 .ensures in
     let n = c .before .before .before .before .before .before .before .size2 .ensures .0 ∙ c .before .before .before .before .before .before .before .before .word2 .ensures in
     (rw (v, n, first) (columns-within (q .0) (q .3) (q .4)), rw (v, first) (omega (arith, batch-facts (q .0) (q .3) (q .4) .columns, q .6, c .before .before .before .clear .kept)))
-
-size-requires-3 : tie.Need-size-requires-3
-size-requires-3 c κs = search needs
-
-first-requires : tie.Need-first-requires
-first-requires c κs = search needs
-
-new-requires : tie.Need-new-requires
-new-requires c κs = search needs
 
 run-instrs-requires : tie.Need-run-instrs-requires
 run-instrs-requires c κs =
@@ -72,12 +33,6 @@ run-instrs-requires c κs =
 
 same-length : tie.Need-same-length
 same-length c = c .before .before .before .before .before .before .run-instrs .kept .1 .1 .1 .1 .1 .0 ∙ c .before .before .before .before .before .before .before .before .before .before .before .before .before .before .before .load .kept .1 .1 .1 .1 .0 ∙ c .before .before .before .before .before .before .before .before .before .before .before .before .before .before .before .before .before .before .before .clear .kept .0
-
-same-length-2 : tie.Need-same-length-2
-same-length-2 c = search needs
-
-same-length-3 : tie.Need-same-length-3
-same-length-3 c = search needs
 
 returns : tie.Need-returns
 unfolding ranBatch
@@ -101,22 +56,22 @@ run-batch-spec =
     tie.close
     (tie.spec
     first-of-requires
-    word-requires
-    size-requires
-    add-word
-    word-requires-2
-    size-requires-2
-    add-word-2
-    word-requires-3
-    lane-count-requires
-    clear-requires
-    add-load
+    (λ c κs. search needs)
+    (λ c κs. search needs)
+    (λ c. search needs)
+    (λ c κs. search needs)
+    (λ c κs. search needs)
+    (λ c. search needs)
+    (λ c κs. search needs)
+    (λ c κs. search needs)
+    (λ c κs. search needs)
+    (λ c. search needs)
     load-requires
-    size-requires-3
-    first-requires
-    new-requires
+    (λ c κs. search needs)
+    (λ c κs. search needs)
+    (λ c κs. search needs)
     run-instrs-requires
     same-length
-    same-length-2
-    same-length-3
+    (λ c. search needs)
+    (λ c. search needs)
     returns)

@@ -10,30 +10,6 @@ use Rattle.steps.proofs.run_prediction.Tie as tie
 first-of-requires : tie.Need-first-of-requires
 first-of-requires c κs = let q = c .before .before .before .before .before .pre in omega (arith, entry-small (q .0) (q .2))
 
-add-word : tie.Need-add-word
-add-word c = search needs
-
-word-requires : tie.Need-word-requires
-word-requires c κs = search needs
-
-size-requires : tie.Need-size-requires
-size-requires c κs = search needs
-
-word-requires-2 : tie.Need-word-requires-2
-word-requires-2 c κs = search needs
-
-of-requires : tie.Need-of-requires
-of-requires c κs = search needs
-
-add-list-at : tie.Need-add-list-at
-add-list-at c = search needs
-
-add-list-at-2 : tie.Need-add-list-at-2
-add-list-at-2 c = search needs
-
-list-at-requires : tie.Need-list-at-requires
-list-at-requires c κs = search needs
-
 key-asked-requires : tie.Need-key-asked-requires
 key-asked-requires c κs = let q = c .before .before .before .before .before .before .before .before .before .before .before .pre in (q .0, q .2, q .3)
 
@@ -44,12 +20,6 @@ predict-val-requires c κs =
     let first = c .before .before .before .before .before .before .before .before .first-of .ensures .0 in
     let n = c .before .before .before .before .before .before .size .ensures .0 ∙ c .before .before .before .before .before .before .before .word .ensures in
     (rw (c .before .before .before .before .of .ensures, c .before .before .before .before .before .word2 .ensures, first) (table-here (q .0) (q .2) (q .3) (q .1)), rw (c .before .before .before .list-at .ensures .0, n, first) (writes-short (q .0) (q .2) (q .3)), rw (c .before .before .key-asked .ensures) (prediction-facts (q .0) (q .2) (q .3) .keys), q .4)
-
-same-length : tie.Need-same-length
-same-length c = search needs
-
-same-length-2 : tie.Need-same-length-2
-same-length-2 c = search needs
 
 returns : tie.Need-returns
 unfolding askedRow
@@ -64,16 +34,16 @@ run-prediction-spec =
     tie.close
     (tie.spec
     first-of-requires
-    add-word
-    word-requires
-    size-requires
-    word-requires-2
-    of-requires
-    add-list-at
-    add-list-at-2
-    list-at-requires
+    (λ c. search needs)
+    (λ c κs. search needs)
+    (λ c κs. search needs)
+    (λ c κs. search needs)
+    (λ c κs. search needs)
+    (λ c. search needs)
+    (λ c. search needs)
+    (λ c κs. search needs)
     key-asked-requires
     predict-val-requires
-    same-length
-    same-length-2
+    (λ c. search needs)
+    (λ c. search needs)
     returns)

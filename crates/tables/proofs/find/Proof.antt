@@ -36,12 +36,6 @@ add-at c =
     let i = c .before .before .before .before .before .args .info in
     omega (arith, row-within (c .before .before .before .loop .i) (i .rows) (i .width) (c .before .before .loop-test .taken), c .before .before .before .before .before .pre, c .before .before .before .before .before .good)
 
-add-i : tie.Need-add-i Inv-loop μ-loop
-add-i c = search needs
-
-loop-less : tie.Need-loop-less Inv-loop μ-loop
-loop-less c = search needs
-
 loop-again : tie.Need-loop-again Inv-loop μ-loop
 loop-again c =
     let a = c .before .before .before .before .before .args in
@@ -65,7 +59,7 @@ find-spec =
     same-words-requires
     returns
     add-at
-    add-i
-    loop-less
+    (λ c. search needs)
+    (λ c. search needs)
     loop-again
     returns-2)

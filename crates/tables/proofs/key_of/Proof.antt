@@ -19,24 +19,6 @@ loop-holds : tie.Need-loop-holds Inv-loop μ-loop
 unfolding tab
 loop-holds c = search needs
 
-mul-key : tie.Need-mul-key Inv-loop μ-loop
-mul-key c = search needs
-
-shared-slice-read-key : tie.Need-shared-slice-read-key Inv-loop μ-loop
-shared-slice-read-key c = search needs
-
-mul-key-2 : tie.Need-mul-key-2 Inv-loop μ-loop
-mul-key-2 c = search needs
-
-array-write-key : tie.Need-array-write-key Inv-loop μ-loop
-array-write-key c = search needs
-
-add-i : tie.Need-add-i Inv-loop μ-loop
-add-i c = search needs
-
-loop-less : tie.Need-loop-less Inv-loop μ-loop
-loop-less c = search needs
-
 loop-again : tie.Need-loop-again Inv-loop μ-loop
 loop-again c =
     let a = c .before .before .before .args in
@@ -56,11 +38,11 @@ key-of-spec =
     Inv-loop
     μ-loop
     loop-holds
-    mul-key
-    shared-slice-read-key
-    mul-key-2
-    array-write-key
-    add-i
-    loop-less
+    (λ c. search needs)
+    (λ c. search needs)
+    (λ c. search needs)
+    (λ c. search needs)
+    (λ c. search needs)
+    (λ c. search needs)
     loop-again
     returns)

@@ -7,32 +7,17 @@ use borrow.Author.Needs.{needs}
 use Rattle.action.proofs.lookup.lookup_or_insert_default.Statement.{statement}
 use Rattle.action.proofs.lookup.lookup_or_insert_default.Tie as tie
 
-of-requires : tie.Need-of-requires
-of-requires c κs = search needs
-
 fill-requires : tie.Need-fill-requires
 fill-requires c κs =
     let a = c .before .before .before .before .before .before .before .before .args in
     let p = c .before .before .before .before .before .before .before .before .pre in
     rw (c .before .of .ensures) ((searchable (now (a .words)) (now (a .committed)) (p .0) (p .1) (a .table) (p .2), p .3), p .6)
 
-difference-requires : tie.Need-difference-requires
-difference-requires c κs = search needs
-
 serve-lanes-requires : tie.Need-serve-lanes-requires
 serve-lanes-requires c κs =
     let a = c .before .before .before .before .before .before .before .before .before .before .before .before .before .before .before .args in
     let p = c .before .before .before .before .before .before .before .before .before .before .before .before .before .before .before .pre in
     (rw (c .before .before .before .before .before .before .before .before .of .ensures) (searchable (now (a .words)) (now (a .committed)) (p .0) (p .1) (a .table) (p .2)), p .3, p .4, p .5, c .before .before .before .before .before .before .fill .kept .1 .1 .1 .1 .1 .0 ∙ p .6)
-
-same-length : tie.Need-same-length
-same-length c = search needs
-
-same-length-2 : tie.Need-same-length-2
-same-length-2 c = search needs
-
-same-length-3 : tie.Need-same-length-3
-same-length-3 c = search needs
 
 returns : tie.Need-returns
 returns c =
@@ -46,11 +31,11 @@ pub lookup-or-insert-default-spec : {M : Type 1} → statement M
 lookup-or-insert-default-spec =
     tie.close
     (tie.spec
-    of-requires
+    (λ c κs. search needs)
     fill-requires
-    difference-requires
+    (λ c κs. search needs)
     serve-lanes-requires
-    same-length
-    same-length-2
-    same-length-3
+    (λ c. search needs)
+    (λ c. search needs)
+    (λ c. search needs)
     returns)

@@ -7,21 +7,6 @@ use borrow.Author.Needs.{needs}
 use Rattle.answer.proofs.bodies.write_log.Statement.{statement}
 use Rattle.answer.proofs.bodies.write_log.Tie as tie
 
-flag-requires : tie.Need-flag-requires
-flag-requires c κs = search needs
-
-mul-answer : tie.Need-mul-answer
-mul-answer c = search needs
-
-slice-write-answer : tie.Need-slice-write-answer
-slice-write-answer c = search needs
-
-add-write : tie.Need-add-write
-add-write c = search needs
-
-write-requires : tie.Need-write-requires
-write-requires c κs = search needs
-
 same-length : tie.Need-same-length
 same-length c = c .before .before .write .kept .1 .1 .0 ∙ simp length-set
 
@@ -34,10 +19,10 @@ pub write-log-spec : {M : Type 1} → statement M
 write-log-spec =
     tie.close
     (tie.spec
-    flag-requires
-    mul-answer
-    slice-write-answer
-    add-write
-    write-requires
+    (λ c κs. search needs)
+    (λ c. search needs)
+    (λ c. search needs)
+    (λ c. search needs)
+    (λ c κs. search needs)
     same-length
     returns)

@@ -18,83 +18,17 @@ room c =
     let a = c .before .before .before .before .before .before .before .args in
     omega (arith, c .rows-length .ensures, c .before .before .before .before .before .before .before .pre .3, length-part (now (a .rows)) (a .from) (rowsLength (now (a .words)) (now (a .counts)) (a .table .0)) (c .before .before .before .before .before .before .before .pre .2))
 
-cast-t : tie.Need-cast-t
-cast-t c = search needs
-
-first-of-requires : tie.Need-first-of-requires
-first-of-requires c κs = search needs
-
-rows-length-requires : tie.Need-rows-length-requires
-rows-length-requires c κs = search needs
-
-word-requires : tie.Need-word-requires
-word-requires c κs = search needs
-
-mul-answer : tie.Need-mul-answer
-mul-answer c = search needs
-
 slice-write-answer : tie.Need-slice-write-answer
 slice-write-answer c = omega (arith, room (c .before))
-
-add-word : tie.Need-add-word
-add-word c = search needs
-
-word-requires-2 : tie.Need-word-requires-2
-word-requires-2 c κs = search needs
-
-add-answer : tie.Need-add-answer
-add-answer c = search needs
-
-mul-answer-2 : tie.Need-mul-answer-2
-mul-answer-2 c = search needs
 
 slice-write-answer-2 : tie.Need-slice-write-answer-2
 slice-write-answer-2 c = simp length-set (omega (arith, room (c .before .before)))
 
-add-word-2 : tie.Need-add-word-2
-add-word-2 c = search needs
-
-word-requires-3 : tie.Need-word-requires-3
-word-requires-3 c κs = search needs
-
-add-answer-2 : tie.Need-add-answer-2
-add-answer-2 c = search needs
-
-mul-answer-3 : tie.Need-mul-answer-3
-mul-answer-3 c = search needs
-
 slice-write-answer-3 : tie.Need-slice-write-answer-3
 slice-write-answer-3 c = simp length-set (omega (arith, room (c .before .before .before)))
 
-word-requires-4 : tie.Need-word-requires-4
-word-requires-4 c κs = search needs
-
-add-answer-3 : tie.Need-add-answer-3
-add-answer-3 c = search needs
-
-mul-answer-4 : tie.Need-mul-answer-4
-mul-answer-4 c = search needs
-
 slice-write-answer-4 : tie.Need-slice-write-answer-4
 slice-write-answer-4 c = simp length-set (omega (arith, room (c .before .before .before .before)))
-
-add-write : tie.Need-add-write
-add-write c = search needs
-
-mul-write : tie.Need-mul-write
-mul-write c = search needs
-
-sub-write : tie.Need-sub-write
-sub-write c = search needs
-
-part-write-start : tie.Need-part-write-start
-part-write-start c = search needs
-
-part-write-end : tie.Need-part-write-end
-part-write-end c = search needs
-
-add-write-2 : tie.Need-add-write-2
-add-write-2 c = search needs
 
 write-requires : tie.Need-write-requires
 write-requires c κs =
@@ -119,32 +53,32 @@ pub write-table-spec : {M : Type 1} → statement M
 write-table-spec =
     tie.close
     (tie.spec
-    cast-t
-    first-of-requires
-    rows-length-requires
-    word-requires
-    mul-answer
+    (λ c. search needs)
+    (λ c κs. search needs)
+    (λ c κs. search needs)
+    (λ c κs. search needs)
+    (λ c. search needs)
     slice-write-answer
-    add-word
-    word-requires-2
-    add-answer
-    mul-answer-2
+    (λ c. search needs)
+    (λ c κs. search needs)
+    (λ c. search needs)
+    (λ c. search needs)
     slice-write-answer-2
-    add-word-2
-    word-requires-3
-    add-answer-2
-    mul-answer-3
+    (λ c. search needs)
+    (λ c κs. search needs)
+    (λ c. search needs)
+    (λ c. search needs)
     slice-write-answer-3
-    word-requires-4
-    add-answer-3
-    mul-answer-4
+    (λ c κs. search needs)
+    (λ c. search needs)
+    (λ c. search needs)
     slice-write-answer-4
-    add-write
-    mul-write
-    sub-write
-    part-write-start
-    part-write-end
-    add-write-2
+    (λ c. search needs)
+    (λ c. search needs)
+    (λ c. search needs)
+    (λ c. search needs)
+    (λ c. search needs)
+    (λ c. search needs)
     write-requires
     same-length
     returns)

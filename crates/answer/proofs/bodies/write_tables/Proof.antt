@@ -21,9 +21,6 @@ abbrev μ-loop : tie.MeasureT-loop
 loop-holds : tie.Need-loop-holds Inv-loop μ-loop
 loop-holds c = (search needs, search needs, sym (sum-none _), end-none _ _, put-none _ _ _)
 
-cast-t12 : tie.Need-cast-t12 Inv-loop μ-loop
-cast-t12 c = search needs
-
 write-table-requires : tie.Need-write-table-requires Inv-loop μ-loop
 write-table-requires c κs =
     let a = c .before .before .before .before .before .before .before .args in
@@ -47,12 +44,6 @@ add-from c =
     let l = c .before .before .before .before .before .before .loop in
     omega (arith, sum-fits (rowsLength (now (a .words)) (now (a .counts))) (l .t) (a .n) (c .before .before .before .before .before .loop-test .taken), c .before .before .before .before .before .before .before .before .before .before .before .pre .1, l .inv .2, c .rows-length .ensures)
 
-add-t : tie.Need-add-t Inv-loop μ-loop
-add-t c = search needs
-
-loop-less : tie.Need-loop-less Inv-loop μ-loop
-loop-less c = search needs
-
 loop-again : tie.Need-loop-again Inv-loop μ-loop
 loop-again c =
     let a = c .before .before .before .before .before .before .before .before .before .before .before .args in
@@ -65,9 +56,6 @@ loop-again c =
       end-more f (a .start) (l .t) (l .at) _ (l .inv .3) (w .ensures .1 ∙ rw (l .inv .2)),
       put-more f (a .start) (l .t) (now (a .answer)) (l .answer) _ (l .at) (l .inv .4) (l .inv .3) (w .ensures .0 ∙ rw (l .inv .2)),
     )
-
-same-length : tie.Need-same-length Inv-loop μ-loop
-same-length c = search needs
 
 returns : tie.Need-returns Inv-loop μ-loop
 returns c =
@@ -82,12 +70,12 @@ write-tables-spec =
     Inv-loop
     μ-loop
     loop-holds
-    cast-t12
+    (λ c. search needs)
     write-table-requires
     rows-length-requires
     add-from
-    add-t
-    loop-less
+    (λ c. search needs)
+    (λ c. search needs)
     loop-again
-    same-length
+    (λ c. search needs)
     returns)

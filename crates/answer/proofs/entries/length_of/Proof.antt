@@ -19,20 +19,11 @@ abbrev μ-loop : tie.MeasureT-loop
 loop-holds : tie.Need-loop-holds Inv-loop μ-loop
 loop-holds c = (search needs, sym (sum-none _))
 
-entry-of-requires : tie.Need-entry-of-requires Inv-loop μ-loop
-entry-of-requires c κs = search needs
-
 add-s : tie.Need-add-s Inv-loop μ-loop
 add-s c =
     let a = c .before .before .before .before .before .before .before .args in
     let l = c .before .before .before .loop in
     omega (arith, small-entry (now (a .words)) (now (a .counts)) (now (a .lengths)) (a .used) (a .z) (c .before .before .before .before .before .before .before .pre .0) (l .i) (omega (arith, c .before .before .before .before .before .before .before .pre .1, c .before .before .loop-test .taken)), l .inv .1, ap (λ (x : Entry). x .length) (c .before .entry-of .ensures))
-
-add-i : tie.Need-add-i Inv-loop μ-loop
-add-i c = search needs
-
-loop-less : tie.Need-loop-less Inv-loop μ-loop
-loop-less c = search needs
 
 loop-again : tie.Need-loop-again Inv-loop μ-loop
 loop-again c =
@@ -54,9 +45,9 @@ length-of-spec =
     Inv-loop
     μ-loop
     loop-holds
-    entry-of-requires
+    (λ c κs. search needs)
     add-s
-    add-i
-    loop-less
+    (λ c. search needs)
+    (λ c. search needs)
     loop-again
     returns)

@@ -23,15 +23,6 @@ abbrev μ-loop : tie.MeasureT-loop
 loop-holds : tie.Need-loop-holds Inv-loop μ-loop
 loop-holds c = (search needs, search needs, omega (arith, sum-none (λ j. entryAt (now (c .before .before .before .before .args .words)) (now (c .before .before .before .before .args .counts)) (now (c .before .before .before .before .args .lengths)) (c .before .before .before .before .args .used) (c .before .before .before .before .args .z) j .length)), put-none _ _ _)
 
-entry-of-requires : tie.Need-entry-of-requires Inv-loop μ-loop
-entry-of-requires c κs = search needs
-
-mul-write-entry : tie.Need-mul-write-entry Inv-loop μ-loop
-mul-write-entry c = search needs
-
-add-write-entry : tie.Need-add-write-entry Inv-loop μ-loop
-add-write-entry c = search needs
-
 write-entry-requires : tie.Need-write-entry-requires Inv-loop μ-loop
 write-entry-requires c κs =
     let a = c .before .before .before .before .before .before .before .before .args in
@@ -45,12 +36,6 @@ add-first c =
     let l = c .before .before .before .before .before .before .before .loop in
     omega (arith, small-entry (now (a .words)) (now (a .counts)) (now (a .lengths)) (a .used) (a .z) (c .before .before .before .before .before .before .before .before .before .before .before .before .pre .0) (l .i) (omega (arith, c .before .before .before .before .before .before .before .before .before .before .before .before .pre .1, c .before .before .before .before .before .before .loop-test .taken)), l .inv .2, ap (λ (x : Entry). x .length) (c .before .before .before .before .before .entry-of .ensures), c .before .before .before .before .before .before .before .before .before .before .before .before .pre .2)
 
-add-i : tie.Need-add-i Inv-loop μ-loop
-add-i c = search needs
-
-loop-less : tie.Need-loop-less Inv-loop μ-loop
-loop-less c = search needs
-
 loop-again : tie.Need-loop-again Inv-loop μ-loop
 loop-again c =
     let a = c .before .before .before .before .before .before .before .before .before .before .before .before .args in
@@ -59,9 +44,6 @@ loop-again c =
     let f : ℕ → ℕ = λ (j : ℕ). entryAt (now (a .words)) (now (a .counts)) (now (a .lengths)) (a .used) (a .z) j .length in
     let g : ℕ → List ℕ = λ (j : ℕ). entryWords (entryAt (now (a .words)) (now (a .counts)) (now (a .lengths)) (a .used) (a .z) j) (a .start + sum f j) in
     (search needs, c .before .before .before .write-entry .kept .1 .1 .1 .0 ∙ l .inv .1, omega (arith, sum-turn f (l .i) (sum f (l .i)) _ refl refl, l .inv .2, ap (λ (x : Entry). x .length) r), put-more g 1 (l .i) (now (a .answer)) (l .answer) _ (1 + 3 * l .i) (l .inv .3) (omega (arith, length-entries (entryAt (now (a .words)) (now (a .counts)) (now (a .lengths)) (a .used) (a .z)) (λ j. a .start + sum f j) (l .i))) (c .before .before .before .write-entry .ensures ∙ rw (r, l .inv .2)))
-
-same-length : tie.Need-same-length Inv-loop μ-loop
-same-length c = search needs
 
 returns : tie.Need-returns Inv-loop μ-loop
 returns c =
@@ -76,13 +58,13 @@ write-entries-spec =
     Inv-loop
     μ-loop
     loop-holds
-    entry-of-requires
-    mul-write-entry
-    add-write-entry
+    (λ c κs. search needs)
+    (λ c. search needs)
+    (λ c. search needs)
     write-entry-requires
     add-first
-    add-i
-    loop-less
+    (λ c. search needs)
+    (λ c. search needs)
     loop-again
-    same-length
+    (λ c. search needs)
     returns)

@@ -18,22 +18,10 @@ Inv-loop bound n₀ v₀ n v = (v ≤ 32) × (n ≡ howMany (λ k. getD (bound .
 abbrev μ-loop : tie.MeasureT-loop
 μ-loop bound n₀ v₀ n v = 32 - v
 
-loop-holds : tie.Need-loop-holds Inv-loop μ-loop
-loop-holds c = search needs
-
-element-copy-out-if1 : tie.Need-element-copy-out-if1 Inv-loop μ-loop
-element-copy-out-if1 c = search needs
-
 add-n : tie.Need-add-n Inv-loop μ-loop
 add-n c =
     let l = c .before .before .before .loop in
     omega (arith, howMany-le (λ (k : ℕ). getD (c .before .before .before .before .args .t1 .known) k false) (l .v))
-
-add-v : tie.Need-add-v Inv-loop μ-loop
-add-v c = search needs
-
-loop-less : tie.Need-loop-less Inv-loop μ-loop
-loop-less c = search needs
 
 loop-again : tie.Need-loop-again Inv-loop μ-loop
 loop-again c =
@@ -53,10 +41,10 @@ bound-count-spec =
     (tie.spec
     Inv-loop
     μ-loop
-    loop-holds
-    element-copy-out-if1
+    (λ c. search needs)
+    (λ c. search needs)
     add-n
-    add-v
-    loop-less
+    (λ c. search needs)
+    (λ c. search needs)
     loop-again
     returns)

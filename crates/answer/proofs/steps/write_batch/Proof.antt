@@ -33,15 +33,6 @@ room c =
     let a = c .before .before .before .before .before .args in
     rw (length-columns (a .kept .matches) (a .kept .bound .known) (now (a .bindings)) (c .before .before .before .before .before .pre .1) (c .before .before .before .before .before .pre .0) 32 (omega arith), ← c .before .bound-count .ensures) (omega (arith, c .if1 .left))
 
-bound-count-requires : tie.Need-bound-count-requires
-bound-count-requires c κs = search needs
-
-add-end : tie.Need-add-end
-add-end c = search needs
-
-add-end-2 : tie.Need-add-end-2
-add-end-2 c = search needs
-
 mul-end : tie.Need-mul-end
 mul-end c = omega (arith, most c)
 
@@ -56,26 +47,8 @@ returns c =
     let a = c .before .before .before .before .before .args in
     (placed-not (batchWords (a .kept .matches) (a .kept .bound .known) (now (a .bindings)) (a .mask .live)) (a .at) (now (a .answer)) (omega (arith, c .if1 .taken, length-is (c .before))), omega (arith, length-is (c .before)))
 
-count-requires : tie.Need-count-requires
-count-requires c κs = search needs
-
 cast-answer : tie.Need-cast-answer
 cast-answer c = omega (arith, count-most (c .before .before .before .before .before .before .args .mask .live) (search needs), c .count .ensures)
-
-mul-answer : tie.Need-mul-answer
-mul-answer c = search needs
-
-slice-write-answer : tie.Need-slice-write-answer
-slice-write-answer c = search needs
-
-cast-answer-2 : tie.Need-cast-answer-2
-cast-answer-2 c = search needs
-
-add-answer : tie.Need-add-answer
-add-answer c = search needs
-
-mul-answer-2 : tie.Need-mul-answer-2
-mul-answer-2 c = search needs
 
 slice-write-answer-2 : tie.Need-slice-write-answer-2
 slice-write-answer-2 c = simp length-set (omega arith)
@@ -83,17 +56,8 @@ slice-write-answer-2 c = simp length-set (omega arith)
 cast-answer-3 : tie.Need-cast-answer-3
 cast-answer-3 c = omega (arith, howMany-le (λ (v : ℕ). getD (c .before .before .before .before .before .before .args .kept .bound .known) v false) 32, c .before .before .bound-count .ensures)
 
-add-answer-2 : tie.Need-add-answer-2
-add-answer-2 c = search needs
-
-mul-answer-3 : tie.Need-mul-answer-3
-mul-answer-3 c = search needs
-
 slice-write-answer-3 : tie.Need-slice-write-answer-3
 slice-write-answer-3 c = simp length-set (omega arith)
-
-add-write-columns : tie.Need-add-write-columns
-add-write-columns c = search needs
 
 write-columns-requires : tie.Need-write-columns-requires
 write-columns-requires c κs = (c .before .before .before .before .before .before .before .pre .1, c .before .before .before .before .before .before .before .pre .0, simp length-set (le-trans (le-add-right _ (c .before .before .before .before .before .before .before .args .kept .matches)) (room (c .before .before))))
@@ -124,26 +88,26 @@ pub write-batch-spec : {M : Type 1} → statement M
 write-batch-spec =
     tie.close
     (tie.spec
-    bound-count-requires
-    add-end
-    add-end-2
+    (λ c κs. search needs)
+    (λ c. search needs)
+    (λ c. search needs)
     mul-end
     add-end-3
     add-end-4
     returns
-    count-requires
+    (λ c κs. search needs)
     cast-answer
-    mul-answer
-    slice-write-answer
-    cast-answer-2
-    add-answer
-    mul-answer-2
+    (λ c. search needs)
+    (λ c. search needs)
+    (λ c. search needs)
+    (λ c. search needs)
+    (λ c. search needs)
     slice-write-answer-2
     cast-answer-3
-    add-answer-2
-    mul-answer-3
+    (λ c. search needs)
+    (λ c. search needs)
     slice-write-answer-3
-    add-write-columns
+    (λ c. search needs)
     write-columns-requires
     write-live-requires
     same-length

@@ -25,32 +25,8 @@ room c =
     let h : a .at + length (columnWords (now (a .bindings)) (a .lanes) true (a .v .0)) ≤ length (now (a .answer)) = rw (c .if1 .taken) at (p .3) in
     omega (arith, h, length-known (now (a .bindings)) (a .lanes) (a .v .0) (p .0) (p .1) (p .2))
 
-cast-from : tie.Need-cast-from
-cast-from c = search needs
-
-mul-from : tie.Need-mul-from
-mul-from c = search needs
-
-mul-answer : tie.Need-mul-answer
-mul-answer c = search needs
-
 slice-write-answer : tie.Need-slice-write-answer
 slice-write-answer c = omega (arith, room (c .before))
-
-add-write : tie.Need-add-write
-add-write c = search needs
-
-mul-write : tie.Need-mul-write
-mul-write c = search needs
-
-sub-write : tie.Need-sub-write
-sub-write c = search needs
-
-part-write-start : tie.Need-part-write-start
-part-write-start c = search needs
-
-part-write-end : tie.Need-part-write-end
-part-write-end c = search needs
 
 add-write-2 : tie.Need-add-write-2
 add-write-2 c = omega (arith, room (c .before .before), c .before .before .before .before .before .good)
@@ -78,15 +54,15 @@ pub write-column-spec : {M : Type 1} → statement M
 write-column-spec =
     tie.close
     (tie.spec
-    cast-from
-    mul-from
-    mul-answer
+    (λ c. search needs)
+    (λ c. search needs)
+    (λ c. search needs)
     slice-write-answer
-    add-write
-    mul-write
-    sub-write
-    part-write-start
-    part-write-end
+    (λ c. search needs)
+    (λ c. search needs)
+    (λ c. search needs)
+    (λ c. search needs)
+    (λ c. search needs)
     add-write-2
     write-requires
     same-length

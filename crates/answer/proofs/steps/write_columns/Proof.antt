@@ -21,12 +21,6 @@ abbrev μ-loop : tie.MeasureT-loop
 loop-holds : tie.Need-loop-holds Inv-loop μ-loop
 loop-holds c = (search needs, search needs, end-none _ _, put-none _ _ _)
 
-element-copy-out-write-column : tie.Need-element-copy-out-write-column Inv-loop μ-loop
-element-copy-out-write-column c = search needs
-
-cast-t12 : tie.Need-cast-t12 Inv-loop μ-loop
-cast-t12 c = search needs
-
 write-column-requires : tie.Need-write-column-requires Inv-loop μ-loop
 write-column-requires c κs =
     let a = c .before .before .before .before .before .before .args in
@@ -35,12 +29,6 @@ write-column-requires c κs =
     let p = c .before .before .before .before .before .before .pre in
     (c .before .before .loop-test .taken, p .0, p .1, put-fits f (a .start) (l .v) 32 (l .at) (length (l .answer)) (c .before .before .loop-test .taken) (l .inv .2) (omega (arith, p .2, l .inv .1)))
 
-add-v : tie.Need-add-v Inv-loop μ-loop
-add-v c = search needs
-
-loop-less : tie.Need-loop-less Inv-loop μ-loop
-loop-less c = search needs
-
 loop-again : tie.Need-loop-again Inv-loop μ-loop
 loop-again c =
     let a = c .before .before .before .before .before .before .before .before .before .args in
@@ -48,9 +36,6 @@ loop-again c =
     let f : ℕ → List ℕ = (λ (v : ℕ). columnWords (now (a .bindings)) (a .lanes) (getD (a .t2 .known) v false) v) in
     let w = c .before .before .write-column in
     (search needs, w .kept .1 .1 .1 .1 .1 .0 ∙ l .inv .1, end-more f (a .start) (l .v) (l .at) _ (l .inv .2) (w .ensures .1), put-more f (a .start) (l .v) (now (a .answer)) (l .answer) _ (l .at) (l .inv .3) (l .inv .2) (w .ensures .0))
-
-same-length : tie.Need-same-length Inv-loop μ-loop
-same-length c = search needs
 
 returns : tie.Need-returns Inv-loop μ-loop
 returns c =
@@ -65,11 +50,11 @@ write-columns-spec =
     Inv-loop
     μ-loop
     loop-holds
-    element-copy-out-write-column
-    cast-t12
+    (λ c. search needs)
+    (λ c. search needs)
     write-column-requires
-    add-v
-    loop-less
+    (λ c. search needs)
+    (λ c. search needs)
     loop-again
-    same-length
+    (λ c. search needs)
     returns)

@@ -22,36 +22,12 @@ loop-holds : tie.Need-loop-holds Inv-loop μ-loop
 unfolding tab
 loop-holds c = search needs
 
-element-copy-out-flag : tie.Need-element-copy-out-flag Inv-loop μ-loop
-element-copy-out-flag c = search needs
-
-flag-requires : tie.Need-flag-requires Inv-loop μ-loop
-flag-requires c κs = search needs
-
-add-answer : tie.Need-add-answer Inv-loop μ-loop
-add-answer c = search needs
-
-mul-answer : tie.Need-mul-answer Inv-loop μ-loop
-mul-answer c = search needs
-
-slice-write-answer : tie.Need-slice-write-answer Inv-loop μ-loop
-slice-write-answer c = search needs
-
-add-i : tie.Need-add-i Inv-loop μ-loop
-add-i c = search needs
-
-loop-less : tie.Need-loop-less Inv-loop μ-loop
-loop-less c = search needs
-
 loop-again : tie.Need-loop-again Inv-loop μ-loop
 loop-again c =
     let a = c .before .before .before .before .before .args in
     let l = c .before .before .before .loop in
     let f : ℕ → ℕ = λ (k : ℕ). flag (getD (a .t1 .live) k false) in
     (search needs, search needs, rw (c .flag .ensures, l .inv .2) (store-more f (l .i) (now (a .answer)) (a .at)))
-
-same-length : tie.Need-same-length Inv-loop μ-loop
-same-length c = search needs
 
 returns : tie.Need-returns Inv-loop μ-loop
 returns c =
@@ -67,13 +43,13 @@ write-live-spec =
     Inv-loop
     μ-loop
     loop-holds
-    element-copy-out-flag
-    flag-requires
-    add-answer
-    mul-answer
-    slice-write-answer
-    add-i
-    loop-less
+    (λ c. search needs)
+    (λ c κs. search needs)
+    (λ c. search needs)
+    (λ c. search needs)
+    (λ c. search needs)
+    (λ c. search needs)
+    (λ c. search needs)
     loop-again
-    same-length
+    (λ c. search needs)
     returns)

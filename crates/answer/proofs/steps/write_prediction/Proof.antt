@@ -10,28 +10,10 @@ use borrow.Author.Needs.{needs}
 use Rattle.answer.proofs.steps.write_prediction.Statement.{statement}
 use Rattle.answer.proofs.steps.write_prediction.Tie as tie
 
-add-end : tie.Need-add-end
-add-end c = search needs
-
-add-end-2 : tie.Need-add-end-2
-add-end-2 c = search needs
-
 returns : tie.Need-returns
 returns c =
     let a = c .before .before .before .args in
     (placed-not (predictionWords (a .made) (now (a .row))) (a .at) (now (a .answer)) (omega (arith, c .if1 .taken)), omega arith)
-
-flag-requires : tie.Need-flag-requires
-flag-requires c κs = search needs
-
-mul-answer : tie.Need-mul-answer
-mul-answer c = search needs
-
-slice-write-answer : tie.Need-slice-write-answer
-slice-write-answer c = search needs
-
-add-write : tie.Need-add-write
-add-write c = search needs
 
 write-requires : tie.Need-write-requires
 write-requires c κs = simp length-set (omega arith)
@@ -51,13 +33,13 @@ pub write-prediction-spec : {M : Type 1} → statement M
 write-prediction-spec =
     tie.close
     (tie.spec
-    add-end
-    add-end-2
+    (λ c. search needs)
+    (λ c. search needs)
     returns
-    flag-requires
-    mul-answer
-    slice-write-answer
-    add-write
+    (λ c κs. search needs)
+    (λ c. search needs)
+    (λ c. search needs)
+    (λ c. search needs)
     write-requires
     same-length
     returns-2)

@@ -11,21 +11,12 @@ use borrow.Author.Needs.{needs}
 use Rattle.commit.proofs.inserts.insert_indexed.Statement.{statement}
 use Rattle.commit.proofs.inserts.insert_indexed.Tie as tie
 
-table-of-requires : tie.Need-table-of-requires
-table-of-requires c κs = search needs
-
-slice-aggregate-build : tie.Need-slice-aggregate-build
-slice-aggregate-build c = search needs
-
 build-requires : tie.Need-build-requires
 build-requires c κs =
     let a = c .before .before .before .before .before .before .args in
     let p = c .before .before .before .before .before .before .pre in
     let e = c .before .table-of .ensures in
     (subst (Stands (now (a .rows))) (sym e) (new-stands (p .1) (p .2)), omega (arith, ap (λ (t : TableInfo). t .rows) e, few-rows (p .1 .some) (p .2), p .3), refl)
-
-slice-aggregate-insert-all : tie.Need-slice-aggregate-insert-all
-slice-aggregate-insert-all c = search needs
 
 insert-all-requires : tie.Need-insert-all-requires
 insert-all-requires c κs =
@@ -35,20 +26,14 @@ insert-all-requires c κs =
     let l : length (b .last .1 .1 .0) ≡ 18432 = b .kept .1 .1 .0 in
     (p .0, p .1, p .2, record { few = p .3; is = of-index (a .info) (b .last .1 .1 .0) _ (length (b .last .1 .1 .0)) (λ z. omega arith) (b .ensures ∙ ap (λ (t : TableInfo). indexed (homeIn (now (a .rows)) t) (t .rows)) (c .before .before .before .before .before .table-of .ensures)) })
 
-same-length : tie.Need-same-length
-same-length c = search needs
-
-returns : tie.Need-returns
-returns c = search needs
-
 pub insert-indexed-spec : {M : Type 1} → statement M
 insert-indexed-spec =
     tie.close
     (tie.spec
-    table-of-requires
-    slice-aggregate-build
+    (λ c κs. search needs)
+    (λ c. search needs)
     build-requires
-    slice-aggregate-insert-all
+    (λ c. search needs)
     insert-all-requires
-    same-length
-    returns)
+    (λ c. search needs)
+    (λ c. search needs))

@@ -17,17 +17,8 @@ Inv-loop words log any₀ p₀ end₀ any p end = (end ≡ endOf words log p) ×
 abbrev μ-loop : tie.MeasureT-loop
 μ-loop words log any₀ p₀ end₀ any p end = length log - p
 
-end-of-requires : tie.Need-end-of-requires Inv-loop μ-loop
-end-of-requires c κs = search needs
-
 loop-holds : tie.Need-loop-holds Inv-loop μ-loop
 loop-holds c = (c .end-of .ensures, reached-none _ _ _ _)
-
-word-requires : tie.Need-word-requires Inv-loop μ-loop
-word-requires c κs = search needs
-
-end-of-requires-2 : tie.Need-end-of-requires-2 Inv-loop μ-loop
-end-of-requires-2 c κs = search needs
 
 loop-less : tie.Need-loop-less Inv-loop μ-loop
 loop-less c =
@@ -54,10 +45,10 @@ any-removal-spec =
     (tie.spec
     Inv-loop
     μ-loop
-    end-of-requires
+    (λ c κs. search needs)
     loop-holds
-    word-requires
-    end-of-requires-2
+    (λ c κs. search needs)
+    (λ c κs. search needs)
     loop-less
     loop-again
     returns)

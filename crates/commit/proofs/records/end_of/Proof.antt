@@ -10,28 +10,10 @@ use borrow.Author.Needs.{needs}
 use Rattle.commit.proofs.records.end_of.Statement.{statement}
 use Rattle.commit.proofs.records.end_of.Tie as tie
 
-word-requires : tie.Need-word-requires
-word-requires c κs = search needs
-
-add-word : tie.Need-add-word
-add-word c = search needs
-
-word-requires-2 : tie.Need-word-requires-2
-word-requires-2 c κs = search needs
-
-info-of-requires : tie.Need-info-of-requires
-info-of-requires c κs = search needs
-
-add-result : tie.Need-add-result
-add-result c = search needs
-
 add-result-2 : tie.Need-add-result-2
 add-result-2 c =
     let body = firstOf (now (c .before .before .before .before .before .before .before .args .words)) (c .before .before .before .word2 .result) in
     omega (arith, ap (λ (i : TableInfo). i .keys) (c .before .before .info-of .ensures), c .before .before .before .before .before .before .shared-slice-known .given body, c .before .before .before .before .before .before .before .pre, c .before .before .before .before .before .before .before .good)
-
-add-result-3 : tie.Need-add-result-3
-add-result-3 c = search needs
 
 add-result-4 : tie.Need-add-result-4
 add-result-4 c =
@@ -50,13 +32,13 @@ pub end-of-spec : {M : Type 1} → statement M
 end-of-spec =
     tie.close
     (tie.spec
-    word-requires
-    add-word
-    word-requires-2
-    info-of-requires
-    add-result
+    (λ c κs. search needs)
+    (λ c. search needs)
+    (λ c κs. search needs)
+    (λ c κs. search needs)
+    (λ c. search needs)
     add-result-2
-    add-result-3
+    (λ c. search needs)
     add-result-4
     returns
     returns-2)

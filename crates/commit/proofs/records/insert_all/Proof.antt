@@ -21,9 +21,6 @@ Inv-loop words log t info rows₀ index₀ part₀ p₀ end₀ rows index part p
 abbrev μ-loop : tie.MeasureT-loop
 μ-loop words log t info rows₀ index₀ part₀ p₀ end₀ rows index part p end = length log - p
 
-end-of-requires : tie.Need-end-of-requires Inv-loop μ-loop
-end-of-requires c κs = search needs
-
 loop-holds : tie.Need-loop-holds Inv-loop μ-loop
 loop-holds c = let p = c .before .before .before .before .before .pre in (c .end-of .ensures, refl, p .2, reached-none _ _ _ _, refl, p .3 .is)
 
@@ -58,12 +55,6 @@ loop-again c =
       rw (l .inv .4) at (i .ensures .1),
     )
 
-same-length : tie.Need-same-length Inv-loop μ-loop
-same-length c = search needs
-
-same-length-2 : tie.Need-same-length-2 Inv-loop μ-loop
-same-length-2 c = search needs
-
 returns : tie.Need-returns Inv-loop μ-loop
 unfolding inserted
 returns c =
@@ -77,12 +68,12 @@ insert-all-spec =
     (tie.spec
     Inv-loop
     μ-loop
-    end-of-requires
+    (λ c κs. search needs)
     loop-holds
     insert-requires
     end-of-requires-2
     loop-less
     loop-again
-    same-length
-    same-length-2
+    (λ c. search needs)
+    (λ c. search needs)
     returns)

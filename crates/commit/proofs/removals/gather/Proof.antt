@@ -15,50 +15,20 @@ use Rattle.commit.proofs.removals.gather.Tie as tie
 ends : (c : tie.Else2) → c .before .before .before .before .before .before .before .args .p + 2 + c .before .before .before .before .before .before .before .args .k ≤ length (now (c .before .before .before .before .before .before .before .args .log))
 ends c = c .before .before .before .before .before .before .before .pre .3 (rw (← c .before .before .before .before .word .ensures, eq-eqb _ _ (c .before .before .if1 .left), ← c .before .word2 .ensures, eq-eqb _ _ (c .if2 .left)))
 
-add-word : tie.Need-add-word
-add-word c = search needs
-
-word-requires : tie.Need-word-requires
-word-requires c κs = search needs
-
 returns : tie.Need-returns
 returns c = rw (← c .before .before .word .ensures, ne-eqb _ _ (c .if1 .taken))
-
-word-requires-2 : tie.Need-word-requires-2
-word-requires-2 c κs = search needs
 
 returns-2 : tie.Need-returns-2
 returns-2 c = rw (← c .before .before .before .before .word .ensures, eq-eqb _ _ (c .before .before .if1 .left), ← c .before .word2 .ensures, ne-eqb _ _ (c .if2 .taken))
 
-add-from : tie.Need-add-from
-add-from c = search needs
-
 add-end : tie.Need-add-end
 add-end c = omega (arith, ends c, c .before .before .before .before .before .before .before .good)
-
-mul-copy : tie.Need-mul-copy
-mul-copy c = search needs
-
-sub-copy : tie.Need-sub-copy
-sub-copy c = search needs
-
-part-copy-start : tie.Need-part-copy-start
-part-copy-start c = search needs
 
 part-copy-end : tie.Need-part-copy-end
 part-copy-end c = omega (arith, ends c)
 
-mul-copy-2 : tie.Need-mul-copy-2
-mul-copy-2 c = search needs
-
 copy-requires : tie.Need-copy-requires
 copy-requires c κs = simp length-take (omega (arith, ends (c .before .before)))
-
-add-result : tie.Need-add-result
-add-result c = search needs
-
-same-length : tie.Need-same-length
-same-length c = search needs
 
 returns-3 : tie.Need-returns-3
 returns-3 c =
@@ -70,19 +40,19 @@ pub gather-spec : {M : Type 1} → statement M
 gather-spec =
     tie.close
     (tie.spec
-    add-word
-    word-requires
+    (λ c. search needs)
+    (λ c κs. search needs)
     returns
-    word-requires-2
+    (λ c κs. search needs)
     returns-2
-    add-from
+    (λ c. search needs)
     add-end
-    mul-copy
-    sub-copy
-    part-copy-start
+    (λ c. search needs)
+    (λ c. search needs)
+    (λ c. search needs)
     part-copy-end
-    mul-copy-2
+    (λ c. search needs)
     copy-requires
-    add-result
-    same-length
+    (λ c. search needs)
+    (λ c. search needs)
     returns-3)

@@ -18,9 +18,6 @@ Inv-loop words log t k gone₀ n₀ p₀ end₀ gone n p end =
 abbrev μ-loop : tie.MeasureT-loop
 μ-loop words log t k gone₀ n₀ p₀ end₀ gone n p end = length log - p
 
-end-of-requires : tie.Need-end-of-requires Inv-loop μ-loop
-end-of-requires c κs = search needs
-
 loop-holds : tie.Need-loop-holds Inv-loop μ-loop
 loop-holds c =
     (c .end-of .ensures, refl, omega arith, reached-none _ _ _ _)
@@ -53,9 +50,6 @@ loop-again c =
       reached-more (endOf (now (a .words)) (now (a .log))) (length (now (a .log))) (storeTurn (now (a .log)) (a .t .0) (a .k)) (record { words = now (a .gone); count = 0 }) (l .inv .3) (l .inv .0) (omega (arith, end-after (now (a .words)) (now (a .log)) (l .p), l .inv .0)) (c .before .before .before .before .before .loop-test .taken) (r .ensures),
     )
 
-same-length : tie.Need-same-length Inv-loop μ-loop
-same-length c = search needs
-
 returns : tie.Need-returns Inv-loop μ-loop
 returns c =
     let a = c .before .before .before .before .before .before .args in
@@ -68,11 +62,11 @@ gather-all-spec =
     (tie.spec
     Inv-loop
     μ-loop
-    end-of-requires
+    (λ c κs. search needs)
     loop-holds
     gather-requires
     end-of-requires-2
     loop-less
     loop-again
-    same-length
+    (λ c. search needs)
     returns)

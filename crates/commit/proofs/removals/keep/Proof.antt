@@ -39,12 +39,6 @@ gone-is c =
 gather-if-requires : tie.Need-gather-if-requires
 gather-if-requires c κs = let p = c .before .before .before .before .before .pre in (ap (λ (i : TableInfo). i .keys) (p .0), p .2, p .5)
 
-mul-end : tie.Need-mul-end
-mul-end c = search needs
-
-serves-requires : tie.Need-serves-requires
-serves-requires c κs = search needs
-
 slice-reshare-prefix-keep-indexed : tie.Need-slice-reshare-prefix-keep-indexed
 slice-reshare-prefix-keep-indexed c = fits (c .before .before .before .before .before)
 
@@ -53,12 +47,6 @@ slice-aggregate-keep-indexed c = sym (length-take-le _ _ (fits (c .before .befor
 
 keep-indexed-requires : tie.Need-keep-indexed-requires
 keep-indexed-requires c κs = let p = c .before .before .before .before .before .before .before .before .before .before .before .before .before .pre in (p .1, stand (c .before .before .before .before .before .before .before), omega (arith, c .before .before .before .before .before .before .before .gather-if .ensures .0, p .3), p .1 .stands .keys, p .4)
-
-same-length : tie.Need-same-length
-same-length c = search needs
-
-same-length-2 : tie.Need-same-length-2
-same-length-2 c = search needs
 
 returns : tie.Need-returns
 returns c = (c .before .before .keep-indexed .ensures ∙ rows-kept (c .before .before .before .before .before .before .before .before .before .before) _, gone-is (c .before .before .before .before .before .before .before .before .before .before))
@@ -69,17 +57,8 @@ slice-reshare-prefix-keep-all c = fits (c .before .before .before .before .befor
 slice-aggregate-keep-all : tie.Need-slice-aggregate-keep-all
 slice-aggregate-keep-all c = sym (length-take-le _ _ (fits (c .before .before .before .before .before .before)))
 
-slice-aggregate-keep-all-2 : tie.Need-slice-aggregate-keep-all-2
-slice-aggregate-keep-all-2 c = search needs
-
 keep-all-requires : tie.Need-keep-all-requires
 keep-all-requires c κs = let p = c .before .before .before .before .before .before .before .before .before .before .before .before .before .before .pre in (p .1, stand (c .before .before .before .before .before .before .before .before), inl refl, p .1 .stands .keys, p .4)
-
-same-length-3 : tie.Need-same-length-3
-same-length-3 c = search needs
-
-same-length-4 : tie.Need-same-length-4
-same-length-4 c = search needs
 
 returns-2 : tie.Need-returns-2
 returns-2 c = (c .before .before .keep-all .ensures ∙ rows-kept (c .before .before .before .before .before .before .before .before .before .before .before) _, gone-is (c .before .before .before .before .before .before .before .before .before .before .before))
@@ -89,18 +68,18 @@ keep-spec =
     tie.close
     (tie.spec
     gather-if-requires
-    mul-end
-    serves-requires
+    (λ c. search needs)
+    (λ c κs. search needs)
     slice-reshare-prefix-keep-indexed
     slice-aggregate-keep-indexed
     keep-indexed-requires
-    same-length
-    same-length-2
+    (λ c. search needs)
+    (λ c. search needs)
     returns
     slice-reshare-prefix-keep-all
     slice-aggregate-keep-all
-    slice-aggregate-keep-all-2
+    (λ c. search needs)
     keep-all-requires
-    same-length-3
-    same-length-4
+    (λ c. search needs)
+    (λ c. search needs)
     returns-2)

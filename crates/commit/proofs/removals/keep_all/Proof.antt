@@ -42,12 +42,6 @@ add-end c = omega (arith, within c, c .before .before .before .before .before .b
 mul-keep-row : tie.Need-mul-keep-row Inv-loop μ-loop
 mul-keep-row c = omega (arith, within c, c .before .before .before .before .before .before .good)
 
-sub-keep-row : tie.Need-sub-keep-row Inv-loop μ-loop
-sub-keep-row c = search needs
-
-part-keep-row-start : tie.Need-part-keep-row-start Inv-loop μ-loop
-part-keep-row-start c = search needs
-
 part-keep-row-end : tie.Need-part-keep-row-end Inv-loop μ-loop
 part-keep-row-end c = within c
 
@@ -59,9 +53,6 @@ keep-row-requires c κs =
 
 add-i : tie.Need-add-i Inv-loop μ-loop
 add-i c = omega (arith, c .before .before .before .before .before .before .before .before .before .before .before .good)
-
-loop-less : tie.Need-loop-less Inv-loop μ-loop
-loop-less c = search needs
 
 loop-again : tie.Need-loop-again Inv-loop μ-loop
 unfolding spared
@@ -79,9 +70,6 @@ loop-again c =
           (r ∙ ap (λ (n : ℕ). spareRow (now (a .gone)) (a .removed) (take n (drop (l .at) (now (a .words)))) s) (add-sub-cancel-left (l .at) (a .info .width)) ∙ ap (λ (p : ℕ). spareRow (now (a .gone)) (a .removed) (part (now (a .words)) p (a .info .width)) s) (l .inv .1)),
     )
 
-same-length : tie.Need-same-length Inv-loop μ-loop
-same-length c = search needs
-
 returns : tie.Need-returns Inv-loop μ-loop
 returns c =
     let l = c .before .loop in
@@ -97,12 +85,12 @@ keep-all-spec =
     loop-holds
     add-end
     mul-keep-row
-    sub-keep-row
-    part-keep-row-start
+    (λ c. search needs)
+    (λ c. search needs)
     part-keep-row-end
     keep-row-requires
     add-i
-    loop-less
+    (λ c. search needs)
     loop-again
-    same-length
+    (λ c. search needs)
     returns)

@@ -13,27 +13,9 @@ found-is c =
     let a = c .before .before .before .before .before .before .before .args in
     key-found (now (a .gone)) (a .removed) (now (a .row)) (c .before .before .key-of .result) (c .before .before .key-of .ensures) (c .before .before .before .before .before .before .before .pre .2) (c .before .before .before .before .before .before .before .pre .0 .few) ∙ sym (c .look-up .ensures)
 
-key-of-requires : tie.Need-key-of-requires
-key-of-requires c κs = search needs
-
-look-up-requires : tie.Need-look-up-requires
-look-up-requires c κs = search needs
-
-enum-told : tie.Need-enum-told
-enum-told c = search needs
-
-enum-told-2 : tie.Need-enum-told-2
-enum-told-2 c = search needs
-
-append-requires : tie.Need-append-requires
-append-requires c κs = search needs
-
 returns : tie.Need-returns
 unfolding spareRow
 returns c = rw (found-is (c .before .before), c .enum-told .given .1)
-
-same-length : tie.Need-same-length
-same-length c = search needs
 
 returns-2 : tie.Need-returns-2
 unfolding spareRow
@@ -43,11 +25,11 @@ pub keep-row-spec : {M : Type 1} → statement M
 keep-row-spec =
     tie.close
     (tie.spec
-    key-of-requires
-    look-up-requires
-    enum-told
-    enum-told-2
-    append-requires
+    (λ c κs. search needs)
+    (λ c κs. search needs)
+    (λ c. search needs)
+    (λ c. search needs)
+    (λ c κs. search needs)
     returns
-    same-length
+    (λ c. search needs)
     returns-2)

@@ -19,17 +19,11 @@ use Rattle.commit.proofs.rows.append_noted.Tie as tie
 append-requires : tie.Need-append-requires
 append-requires c κs = let p = c .before .before .before .before .pre in (p .1 .within, few-rows (p .0 .some) (p .1))
 
-same-length : tie.Need-same-length
-same-length c = search needs
-
 returns : tie.Need-returns
 returns c =
     let a = c .before .before .before .before .before .before .before .before .args in
     let p = c .before .before .before .before .before .before .before .before .pre in
     (c .before .before .before .append .ensures, none-stays (a .info) (now (a .index)) (record { words = now (a .rows); part = a .part }) _ (c .if1 .taken) (p .2 .is))
-
-same-length-2 : tie.Need-same-length-2
-same-length-2 c = search needs
 
 returns-2 : tie.Need-returns-2
 returns-2 c =
@@ -56,12 +50,6 @@ add-requires c κs =
     let s = subst (Tails n) (sym q) (indexed-tails (homeIn w t) n (row-home-below w t)) in
     (s .size, omega (arith, l, p .2 .few), c .home .ensures .1, s .below (c .home .result) (c .home .ensures .1))) (index-of (a .info) (now (a .index)) _ (p .2 .is))
 
-same-length-3 : tie.Need-same-length-3
-same-length-3 c = search needs
-
-same-length-4 : tie.Need-same-length-4
-same-length-4 c = search needs
-
 returns-3 : tie.Need-returns-3
 returns-3 c =
     let a = c .before .before .before .before .before .before .before .before .before .before .before .before .before .before .before .before .args in
@@ -79,12 +67,12 @@ append-noted-spec =
     tie.close
     (tie.spec
     append-requires
-    same-length
+    (λ c. search needs)
     returns
-    same-length-2
+    (λ c. search needs)
     returns-2
     home-requires
     add-requires
-    same-length-3
-    same-length-4
+    (λ c. search needs)
+    (λ c. search needs)
     returns-3)

@@ -22,44 +22,14 @@ within c =
     let st = c .before .before .before .before .before .before .before .before .before .before .before .pre .1 in
     omega (arith, found-within (now (a .rows)) (newInfo (a .info) (a .part)) (c .before .before .before .before .before .before .before .key-of .result) (g .0 .0) (sym (c .before .before .before .find .ensures) ∙ g .1), st .used, st .within)
 
-key-of-requires : tie.Need-key-of-requires
-key-of-requires c κs = search needs
-
-find-requires : tie.Need-find-requires
-find-requires c κs = search needs
-
-enum-known-p : tie.Need-enum-known-p
-enum-known-p c = search needs
-
 add-merge-words : tie.Need-add-merge-words
 add-merge-words c = omega (arith, within (c .before), c .before .before .before .before .before .before .before .before .before .before .before .before .pre .0 .keys, c .before .before .before .before .before .before .before .before .before .before .before .before .good)
-
-mul-merge-words : tie.Need-mul-merge-words
-mul-merge-words c = search needs
-
-sub-merge-words : tie.Need-sub-merge-words
-sub-merge-words c = search needs
-
-part-merge-words-start : tie.Need-part-merge-words-start
-part-merge-words-start c = search needs
-
-part-merge-words-end : tie.Need-part-merge-words-end
-part-merge-words-end c = search needs
 
 merge-words-requires : tie.Need-merge-words-requires
 merge-words-requires c κs = simp (length-take, length-drop) (omega (arith, within (c .before .before), c .before .before .before .before .before .before .before .before .before .before .before .before .before .pre .0 .keys, c .before .before .before .before .before .before .before .before .before .before .before .before .before .pre .3))
 
-enum-told : tie.Need-enum-told
-enum-told c = search needs
-
 append-noted-requires : tie.Need-append-noted-requires
 append-noted-requires c κs = c .before .before .before .before .before .before .before .before .before .before .before .before .pre
-
-same-length : tie.Need-same-length
-same-length c = search needs
-
-same-length-2 : tie.Need-same-length-2
-same-length-2 c = search needs
 
 returns : tie.Need-returns
 unfolding putRow
@@ -76,12 +46,6 @@ returns c =
     let m : _≡_ {A = Rows} (record { words = c .before .before .merge-words .last .0; part = a .part }) (mergedAt (a .info) row (g .0 .0) s) = rw (← r) (ap (λ (x : List ℕ). record { words = x; part = a .part }) (c .before .before .merge-words .ensures)) in
     (rw e m, pre .2 .is ∙ merge-indexed (a .info) (pre .0) row (pre .3) s (pre .1) (c .before .before .before .before .before .before .before .before .before .before .before .before .key-of .result) (g .0 .0) at (length (now (a .index))) ∙ ap (λ (x : Rows). indexFor (a .info) x (length (now (a .index)))) (sym m))
 
-same-length-3 : tie.Need-same-length-3
-same-length-3 c = search needs
-
-same-length-4 : tie.Need-same-length-4
-same-length-4 c = search needs
-
 returns-2 : tie.Need-returns-2
 unfolding putRow
 returns-2 c =
@@ -95,20 +59,20 @@ pub put-spec : {M : Type 1} → statement M
 put-spec =
     tie.close
     (tie.spec
-    key-of-requires
-    find-requires
-    enum-known-p
+    (λ c κs. search needs)
+    (λ c κs. search needs)
+    (λ c. search needs)
     add-merge-words
-    mul-merge-words
-    sub-merge-words
-    part-merge-words-start
-    part-merge-words-end
+    (λ c. search needs)
+    (λ c. search needs)
+    (λ c. search needs)
+    (λ c. search needs)
     merge-words-requires
-    enum-told
+    (λ c. search needs)
     append-noted-requires
-    same-length
-    same-length-2
+    (λ c. search needs)
+    (λ c. search needs)
     returns
-    same-length-3
-    same-length-4
+    (λ c. search needs)
+    (λ c. search needs)
     returns-2)

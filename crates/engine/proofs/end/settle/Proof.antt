@@ -18,26 +18,11 @@ commit-requires c κs =
     let pre = c .before .before .before .before .before .before .before .pre in
     (omega (arith, pre .1, few-tables (now (a .words)) (pre .0)), omega (arith, length-take-le (a .p .state .used) (now (a .log)) (pre .3 .used), pre .3 .short, pre .3 .used), omega (arith, pre .2), λ t l. ready-table (now (a .words)) (pre .0 .contents) (pre .0 .bodies) t (omega (arith, pre .1)))
 
-same-length : tie.Need-same-length
-same-length c = search needs
-
 returns : tie.Need-returns
 returns c = settled-over (now (c .before .before .before .before .before .before .before .before .before .before .before .args .words)) (c .before .before .before .before .before .before .before .before .before .before .before .args .p) (now (c .before .before .before .before .before .before .before .before .before .before .before .args .log)) (now (c .before .before .before .before .before .before .before .before .before .before .before .args .tables)) (now (c .before .before .before .before .before .before .before .before .before .before .before .args .answer)) (c .before .before .before .before .before .before .before .before .before .before .before .args .count) (c .before .before .before .before .before .before .before .before .before .before .before .pre .1) (record { words = c .before .before .before .commit .last .1 .1 .1 .0; result = c .before .before .before .commit .result }) (c .before .before .before .commit .ensures) (c .if1 .taken)
 
-slice-aggregate-assemble : tie.Need-slice-aggregate-assemble
-slice-aggregate-assemble c = search needs
-
 assemble-requires : tie.Need-assemble-requires
 assemble-requires c κs = (c .before .before .before .before .before .before .before .before .before .before .before .before .before .before .before .pre .0, c .before .before .before .before .before .before .before .before .before .before .before .before .before .before .before .pre .3 .used, enough-here (now (c .before .before .before .before .before .before .before .before .before .before .before .before .before .before .before .args .words)) (c .before .before .before .before .before .before .before .before .before .before .before .before .before .before .before .args .p) (now (c .before .before .before .before .before .before .before .before .before .before .before .before .before .before .before .args .log)) (now (c .before .before .before .before .before .before .before .before .before .before .before .before .before .before .before .args .tables)) (now (c .before .before .before .before .before .before .before .before .before .before .before .before .before .before .before .args .answer)) (c .before .before .before .before .before .before .before .before .before .before .before .before .before .before .before .args .count) (c .before .before .before .before .before .before .before .before .before .before .before .before .before .before .before .pre .1) (record { words = c .before .before .before .before .before .before .before .commit .last .1 .1 .1 .0; result = c .before .before .before .before .before .before .before .commit .result }) (c .before .before .before .before .before .before .before .commit .ensures) (c .before .before .before .before .if1 .left) (c .before .before .before .before .before .before .before .before .before .before .before .before .before .before .before .pre .0) (c .before .before .before .before .before .before .before .before .before .before .before .before .before .before .before .pre .2) (c .before .before .before .before .before .before .before .commit .kept .1 .1 .1 .0) (c .before .before .before .before .before .before .before .before .before .before .before .before .before .before .before .pre .3))
-
-by-length-requires : tie.Need-by-length-requires
-by-length-requires c κs = search needs
-
-same-length-2 : tie.Need-same-length-2
-same-length-2 c = search needs
-
-same-length-3 : tie.Need-same-length-3
-same-length-3 c = search needs
 
 returns-2 : tie.Need-returns-2
 returns-2 c = settled-answer (now (c .before .before .before .before .before .before .before .before .before .before .before .before .before .before .before .before .before .before .before .args .words)) (c .before .before .before .before .before .before .before .before .before .before .before .before .before .before .before .before .before .before .before .args .p) (now (c .before .before .before .before .before .before .before .before .before .before .before .before .before .before .before .before .before .before .before .args .log)) (now (c .before .before .before .before .before .before .before .before .before .before .before .before .before .before .before .before .before .before .before .args .tables)) (now (c .before .before .before .before .before .before .before .before .before .before .before .before .before .before .before .before .before .before .before .args .answer)) (c .before .before .before .before .before .before .before .before .before .before .before .before .before .before .before .before .before .before .before .args .count) (c .before .before .before .before .before .before .before .before .before .before .before .before .before .before .before .before .before .before .before .pre .1) (record { words = c .before .before .before .before .before .before .before .before .before .before .before .commit .last .1 .1 .1 .0; result = c .before .before .before .before .before .before .before .before .before .before .before .commit .result }) (c .before .before .before .before .before .before .before .before .before .before .before .commit .ensures) (c .before .before .before .before .before .before .before .before .if1 .left) (c .before .before .before .assemble .result) (c .by-length .result) (c .before .before .before .assemble .last .1 .1 .1 .1 .1 .1 .1 .0) (c .before .before .before .assemble .ensures .1) (c .by-length .ensures) (c .before .before .before .assemble .ensures .0)
@@ -48,11 +33,11 @@ settle-spec =
     (tie.spec
     slice-aggregate-commit
     commit-requires
-    same-length
+    (λ c. search needs)
     returns
-    slice-aggregate-assemble
+    (λ c. search needs)
     assemble-requires
-    by-length-requires
-    same-length-2
-    same-length-3
+    (λ c κs. search needs)
+    (λ c. search needs)
+    (λ c. search needs)
     returns-2)

@@ -21,12 +21,6 @@ loop-holds : tie.Need-loop-holds Inv-loop μ-loop
 unfolding rowsBefore bookIndexed
 loop-holds c = (search needs, refl, c .before .before .pre .3)
 
-cast-t8 : tie.Need-cast-t8 Inv-loop μ-loop
-cast-t8 c = search needs
-
-info-of-requires : tie.Need-info-of-requires Inv-loop μ-loop
-info-of-requires c κs = search needs
-
 add-rows-requires : tie.Need-add-rows-requires Inv-loop μ-loop
 add-rows-requires c κs =
     let w = now (c .before .before .before .before .before .before .args .words) in
@@ -40,12 +34,6 @@ add-first c =
     let w = now (c .before .before .before .before .before .before .before .before .before .before .args .words) in
     let l = c .before .before .before .before .before .before .before .loop in
     omega (arith, before-within w (c .before .before .before .before .before .before .before .before .before .before .args .n) (l .t) (c .before .before .before .before .before .before .loop-test .taken), c .before .before .before .before .before .before .before .before .before .before .pre .2, l .inv .1, ap (λ (i : TableInfo). i .rows) (c .before .before .before .before .before .info-of .ensures))
-
-add-t : tie.Need-add-t Inv-loop μ-loop
-add-t c = search needs
-
-loop-less : tie.Need-loop-less Inv-loop μ-loop
-loop-less c = search needs
 
 loop-again : tie.Need-loop-again Inv-loop μ-loop
 unfolding rowsBefore bookIndexed
@@ -71,12 +59,12 @@ build-all-spec =
     Inv-loop
     μ-loop
     loop-holds
-    cast-t8
-    info-of-requires
+    (λ c. search needs)
+    (λ c κs. search needs)
     add-rows-requires
     add-first
-    add-t
-    loop-less
+    (λ c. search needs)
+    (λ c. search needs)
     loop-again
     same-length
     returns)

@@ -17,20 +17,8 @@ loop-holds : tie.Need-loop-holds Inv-loop μ-loop
 unfolding rowsBefore
 loop-holds c = (search needs, search needs, refl)
 
-cast-t7 : tie.Need-cast-t7 Inv-loop μ-loop
-cast-t7 c = search needs
-
-rows-of-requires : tie.Need-rows-of-requires Inv-loop μ-loop
-rows-of-requires c κs = search needs
-
 add-rows : tie.Need-add-rows Inv-loop μ-loop
 add-rows c = omega (arith, c .rows-of .ensures .1, c .before .before .loop .inv .1, c .before .loop-test .taken, c .before .before .before .before .pre)
-
-add-t : tie.Need-add-t Inv-loop μ-loop
-add-t c = search needs
-
-loop-less : tie.Need-loop-less Inv-loop μ-loop
-loop-less c = search needs
 
 loop-again : tie.Need-loop-again Inv-loop μ-loop
 unfolding rowsBefore
@@ -51,10 +39,10 @@ rows-before-spec =
     Inv-loop
     μ-loop
     loop-holds
-    cast-t7
-    rows-of-requires
+    (λ c. search needs)
+    (λ c κs. search needs)
     add-rows
-    add-t
-    loop-less
+    (λ c. search needs)
+    (λ c. search needs)
     loop-again
     returns)

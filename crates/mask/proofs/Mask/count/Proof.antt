@@ -19,22 +19,10 @@ Inv-loop self n₀ i₀ n i = (i ≤ 256) × (n ≡ howMany (λ k. getD (self .l
 abbrev μ-loop : tie.MeasureT-loop
 μ-loop self n₀ i₀ n i = 256 - i
 
-loop-holds : tie.Need-loop-holds Inv-loop μ-loop
-loop-holds c = search needs
-
-element-copy-out-if1 : tie.Need-element-copy-out-if1 Inv-loop μ-loop
-element-copy-out-if1 c = search needs
-
 add-n : tie.Need-add-n Inv-loop μ-loop
 add-n c =
     let l = c .before .before .before .loop in
     omega (arith, howMany-le (λ (k : ℕ). getD (c .before .before .before .before .args .t1 .live) k false) (l .i))
-
-add-i : tie.Need-add-i Inv-loop μ-loop
-add-i c = search needs
-
-loop-less : tie.Need-loop-less Inv-loop μ-loop
-loop-less c = search needs
 
 loop-again : tie.Need-loop-again Inv-loop μ-loop
 loop-again c =
@@ -58,10 +46,10 @@ count-spec =
     (tie.spec
     Inv-loop
     μ-loop
-    loop-holds
-    element-copy-out-if1
+    (λ c. search needs)
+    (λ c. search needs)
     add-n
-    add-i
-    loop-less
+    (λ c. search needs)
+    (λ c. search needs)
     loop-again
     returns)

@@ -15,38 +15,11 @@ Inv-loop self last₀ i₀ last i = (i ≤ 256) × (last .0 ≤ i - 1) × (last 
 abbrev μ-loop : tie.MeasureT-loop
 μ-loop self last₀ i₀ last i = 256 - i
 
-loop-holds : tie.Need-loop-holds Inv-loop μ-loop
-loop-holds c = search needs
-
-element-copy-out-marked : tie.Need-element-copy-out-marked Inv-loop μ-loop
-element-copy-out-marked c = search needs
-
-marked-requires : tie.Need-marked-requires Inv-loop μ-loop
-marked-requires c κs = search needs
-
-later-requires : tie.Need-later-requires Inv-loop μ-loop
-later-requires c κs = search needs
-
-add-i : tie.Need-add-i Inv-loop μ-loop
-add-i c = search needs
-
-loop-less : tie.Need-loop-less Inv-loop μ-loop
-loop-less c = search needs
-
 loop-again : tie.Need-loop-again Inv-loop μ-loop
 loop-again c =
     let l = c .before .before .before .before .loop in
     let m = c .before .before .before .before .before .args .t1 .live in
     (search needs, search needs, c .later .ensures ∙ rw (c .before .marked .ensures .0) (last-turn (λ k. getD m k false) (l .i) (l .last .0) (l .inv .2)))
-
-cast-at : tie.Need-cast-at Inv-loop μ-loop
-cast-at c = search needs
-
-element-copy-out-if1 : tie.Need-element-copy-out-if1 Inv-loop μ-loop
-element-copy-out-if1 c = search needs
-
-add-result : tie.Need-add-result Inv-loop μ-loop
-add-result c = search needs
 
 at-end : (c : tie.After-loop Inv-loop μ-loop) → cond (getD (c .before .before .args .t1 .live) (c .before .loop .last .0) false) (c .before .loop .last .0 + 1) 0 ≡ end (c .before .before .args .t1 .live)
 unfolding end
@@ -69,15 +42,15 @@ end-spec =
     (tie.spec
     Inv-loop
     μ-loop
-    loop-holds
-    element-copy-out-marked
-    marked-requires
-    later-requires
-    add-i
-    loop-less
+    (λ c. search needs)
+    (λ c. search needs)
+    (λ c κs. search needs)
+    (λ c κs. search needs)
+    (λ c. search needs)
+    (λ c. search needs)
     loop-again
-    cast-at
-    element-copy-out-if1
-    add-result
+    (λ c. search needs)
+    (λ c. search needs)
+    (λ c. search needs)
     returns
     returns-2)

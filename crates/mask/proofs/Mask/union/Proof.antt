@@ -18,21 +18,6 @@ abbrev μ-loop : tie.MeasureT-loop
 loop-holds : tie.Need-loop-holds Inv-loop μ-loop
 loop-holds c = (search needs, search needs, filled-none _ _)
 
-element-copy-out-self : tie.Need-element-copy-out-self Inv-loop μ-loop
-element-copy-out-self c = search needs
-
-element-copy-out-self-2 : tie.Need-element-copy-out-self-2 Inv-loop μ-loop
-element-copy-out-self-2 c = search needs
-
-element-write-self : tie.Need-element-write-self Inv-loop μ-loop
-element-write-self c = search needs
-
-add-i : tie.Need-add-i Inv-loop μ-loop
-add-i c = search needs
-
-loop-less : tie.Need-loop-less Inv-loop μ-loop
-loop-less c = search needs
-
 loop-again : tie.Need-loop-again Inv-loop μ-loop
 loop-again c =
     let l = c .before .before .before .loop in
@@ -53,10 +38,10 @@ union-spec =
     Inv-loop
     μ-loop
     loop-holds
-    element-copy-out-self
-    element-copy-out-self-2
-    element-write-self
-    add-i
-    loop-less
+    (λ c. search needs)
+    (λ c. search needs)
+    (λ c. search needs)
+    (λ c. search needs)
+    (λ c. search needs)
     loop-again
     returns)

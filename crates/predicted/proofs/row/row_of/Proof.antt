@@ -4,21 +4,6 @@ use borrow.Author.Needs.{needs}
 use Rattle.predicted.proofs.row.row_of.Statement.{statement}
 use Rattle.predicted.proofs.row.row_of.Tie as tie
 
-look-up-among-requires : tie.Need-look-up-among-requires
-look-up-among-requires c κs = search needs
-
-enum-known-p : tie.Need-enum-known-p
-enum-known-p c = search needs
-
-part-requires : tie.Need-part-requires
-part-requires c κs = search needs
-
-enum-told : tie.Need-enum-told
-enum-told c = search needs
-
-in-log-requires : tie.Need-in-log-requires
-in-log-requires c κs = search needs
-
 returns : tie.Need-returns
 unfolding rowOf
 returns c = c .part .ensures ∙ rw (← c .before .before .before .before .look-up-among .ensures, c .before .before .p .given .1)
@@ -31,10 +16,10 @@ pub row-of-spec : {M : Type 1} → statement M
 row-of-spec =
     tie.close
     (tie.spec
-    look-up-among-requires
-    enum-known-p
-    part-requires
-    enum-told
-    in-log-requires
+    (λ c κs. search needs)
+    (λ c. search needs)
+    (λ c κs. search needs)
+    (λ c. search needs)
+    (λ c κs. search needs)
     returns
     returns-2)

@@ -8,21 +8,6 @@ use borrow.Author.Needs.{needs}
 use Rattle.reader.proofs.bodies.by_kind.Statement.{statement}
 use Rattle.reader.proofs.bodies.by_kind.Tie as tie
 
-table-requires : tie.Need-table-requires
-table-requires c κs = search needs
-
-counter-requires : tie.Need-counter-requires
-counter-requires c κs = search needs
-
-rule-requires : tie.Need-rule-requires
-rule-requires c κs = search needs
-
-batch-requires : tie.Need-batch-requires
-batch-requires c κs = search needs
-
-prediction-requires : tie.Need-prediction-requires
-prediction-requires c κs = search needs
-
 returns : tie.Need-returns
 unfolding scan
 returns c = c .table .ensures (sizesOf (c .before .before .before .args .sizes)) ∙ rw (c .before .match .keys1)
@@ -53,11 +38,11 @@ pub by-kind-spec : {M : Type 1} → statement M
 by-kind-spec =
     tie.close
     (tie.spec
-    table-requires
-    counter-requires
-    rule-requires
-    batch-requires
-    prediction-requires
+    (λ c κs. search needs)
+    (λ c κs. search needs)
+    (λ c κs. search needs)
+    (λ c κs. search needs)
+    (λ c κs. search needs)
     returns
     returns-2
     returns-3

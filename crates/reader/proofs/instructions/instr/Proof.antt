@@ -16,29 +16,8 @@ Inv-loop end words sizes fs t₀ k₀ t k = (k ≤ 6) × (scanOf t ≡ iter (fie
 abbrev μ-loop : tie.MeasureT-loop
 μ-loop end words sizes fs t₀ k₀ t k = 6 - k
 
-peek-requires : tie.Need-peek-requires Inv-loop μ-loop
-peek-requires c κs = search needs
-
-fields-requires : tie.Need-fields-requires Inv-loop μ-loop
-fields-requires c κs = search needs
-
-word-requires : tie.Need-word-requires Inv-loop μ-loop
-word-requires c κs = search needs
-
 loop-holds : tie.Need-loop-holds Inv-loop μ-loop
 loop-holds c = (search needs, refl)
-
-array-copy-out-f : tie.Need-array-copy-out-f Inv-loop μ-loop
-array-copy-out-f c = search needs
-
-walk-field-requires : tie.Need-walk-field-requires Inv-loop μ-loop
-walk-field-requires c κs = search needs
-
-add-k : tie.Need-add-k Inv-loop μ-loop
-add-k c = search needs
-
-loop-less : tie.Need-loop-less Inv-loop μ-loop
-loop-less c = search needs
 
 loop-again : tie.Need-loop-again Inv-loop μ-loop
 loop-again c =
@@ -59,13 +38,13 @@ instr-spec =
     (tie.spec
     Inv-loop
     μ-loop
-    peek-requires
-    fields-requires
-    word-requires
+    (λ c κs. search needs)
+    (λ c κs. search needs)
+    (λ c κs. search needs)
     loop-holds
-    array-copy-out-f
-    walk-field-requires
-    add-k
-    loop-less
+    (λ c. search needs)
+    (λ c κs. search needs)
+    (λ c. search needs)
+    (λ c. search needs)
     loop-again
     returns)

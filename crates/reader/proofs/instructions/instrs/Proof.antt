@@ -17,35 +17,14 @@ Inv-loop end words sizes n t₀ i₀ t i = (i ≤ n) × (scanOf t ≡ iter (λ _
 abbrev μ-loop : tie.MeasureT-loop
 μ-loop end words sizes n t₀ i₀ t i = n - i
 
-peek-requires : tie.Need-peek-requires Inv-loop μ-loop
-peek-requires c κs = search needs
-
-word-requires : tie.Need-word-requires Inv-loop μ-loop
-word-requires c κs = search needs
-
-enum-told : tie.Need-enum-told Inv-loop μ-loop
-enum-told c = search needs
-
 returns : tie.Need-returns Inv-loop μ-loop
 returns c =
     let a = c .before .before .before .before .before .args in
     let one = instr (a .end) (now (a .words)) (sizesOf (a .sizes)) in
     sym (list-stops (a .end) (now (a .words)) 64 one (scanOf (a .s)) (sym (c .before .before .word .ensures) ∙ ap scanOf (c .enum-told .given .1)))
 
-enum-told-2 : tie.Need-enum-told-2 Inv-loop μ-loop
-enum-told-2 c = search needs
-
 loop-holds : tie.Need-loop-holds Inv-loop μ-loop
 loop-holds c = (search needs, refl)
-
-instr-requires : tie.Need-instr-requires Inv-loop μ-loop
-instr-requires c κs = search needs
-
-add-i : tie.Need-add-i Inv-loop μ-loop
-add-i c = search needs
-
-loop-less : tie.Need-loop-less Inv-loop μ-loop
-loop-less c = search needs
 
 loop-again : tie.Need-loop-again Inv-loop μ-loop
 loop-again c =
@@ -66,14 +45,14 @@ instrs-spec =
     (tie.spec
     Inv-loop
     μ-loop
-    peek-requires
-    word-requires
-    enum-told
+    (λ c κs. search needs)
+    (λ c κs. search needs)
+    (λ c. search needs)
     returns
-    enum-told-2
+    (λ c. search needs)
     loop-holds
-    instr-requires
-    add-i
-    loop-less
+    (λ c κs. search needs)
+    (λ c. search needs)
+    (λ c. search needs)
     loop-again
     returns-2)

@@ -3,63 +3,6 @@ use borrow.Author.Needs.{needs}
 use Rattle.reader.proofs.instructions.walk_field.Statement.{statement}
 use Rattle.reader.proofs.instructions.walk_field.Tie as tie
 
-enum-told : tie.Need-enum-told
-enum-told c = search needs
-
-enum-told-2 : tie.Need-enum-told-2
-enum-told-2 c = search needs
-
-word-requires : tie.Need-word-requires
-word-requires c κs = search needs
-
-enum-told-3 : tie.Need-enum-told-3
-enum-told-3 c = search needs
-
-word-requires-2 : tie.Need-word-requires-2
-word-requires-2 c κs = search needs
-
-enum-told-4 : tie.Need-enum-told-4
-enum-told-4 c = search needs
-
-word-requires-3 : tie.Need-word-requires-3
-word-requires-3 c κs = search needs
-
-enum-told-5 : tie.Need-enum-told-5
-enum-told-5 c = search needs
-
-word-requires-4 : tie.Need-word-requires-4
-word-requires-4 c κs = search needs
-
-enum-told-6 : tie.Need-enum-told-6
-enum-told-6 c = search needs
-
-word-requires-5 : tie.Need-word-requires-5
-word-requires-5 c κs = search needs
-
-enum-told-7 : tie.Need-enum-told-7
-enum-told-7 c = search needs
-
-word-requires-6 : tie.Need-word-requires-6
-word-requires-6 c κs = search needs
-
-enum-told-8 : tie.Need-enum-told-8
-enum-told-8 c = search needs
-
-pair-requires : tie.Need-pair-requires
-pair-requires c κs = search needs
-
-enum-told-9 : tie.Need-enum-told-9
-enum-told-9 c = search needs
-
-pairs-requires : tie.Need-pairs-requires
-pairs-requires c κs = search needs
-
-enum-told-10 : tie.Need-enum-told-10
-enum-told-10 c = search needs
-
-pairs-requires-2 : tie.Need-pairs-requires-2
-pairs-requires-2 c κs = search needs
-
 returns : tie.Need-returns
 returns c = rw (c .enum-told .given .1)
 
@@ -103,25 +46,25 @@ pub walk-field-spec : {M : Type 1} → statement M
 walk-field-spec =
     tie.close
     (tie.spec
-    enum-told
-    enum-told-2
-    word-requires
-    enum-told-3
-    word-requires-2
-    enum-told-4
-    word-requires-3
-    enum-told-5
-    word-requires-4
-    enum-told-6
-    word-requires-5
-    enum-told-7
-    word-requires-6
-    enum-told-8
-    pair-requires
-    enum-told-9
-    pairs-requires
-    enum-told-10
-    pairs-requires-2
+    (λ c. search needs)
+    (λ c. search needs)
+    (λ c κs. search needs)
+    (λ c. search needs)
+    (λ c κs. search needs)
+    (λ c. search needs)
+    (λ c κs. search needs)
+    (λ c. search needs)
+    (λ c κs. search needs)
+    (λ c. search needs)
+    (λ c κs. search needs)
+    (λ c. search needs)
+    (λ c κs. search needs)
+    (λ c. search needs)
+    (λ c κs. search needs)
+    (λ c. search needs)
+    (λ c κs. search needs)
+    (λ c. search needs)
+    (λ c κs. search needs)
     returns
     returns-2
     returns-3

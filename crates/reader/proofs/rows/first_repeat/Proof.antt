@@ -40,12 +40,6 @@ add-own c =
     let l = c .before .before .before .loop in
     omega (arith, row-fit (c .before .before .before .before .before .before .pre .0) (l .i) (c .before .before .loop-test .taken), l .inv .1, c .before .before .before .before .before .before .good)
 
-add-i : tie.Need-add-i Inv-loop μ-loop
-add-i c = search needs
-
-loop-less : tie.Need-loop-less Inv-loop μ-loop
-loop-less c = search needs
-
 loop-again : tie.Need-loop-again Inv-loop μ-loop
 loop-again c =
     let a = c .before .before .before .before .before .before .args in
@@ -70,7 +64,7 @@ first-repeat-spec =
     is-repeat-requires
     returns
     add-own
-    add-i
-    loop-less
+    (λ c. search needs)
+    (λ c. search needs)
     loop-again
     returns-2)

@@ -4,33 +4,6 @@ use borrow.Author.Needs.{needs}
 use Rattle.reader.proofs.rows.is_repeat.Statement.{statement}
 use Rattle.reader.proofs.rows.is_repeat.Tie as tie
 
-add-key-of : tie.Need-add-key-of
-add-key-of c = search needs
-
-mul-key-of : tie.Need-mul-key-of
-mul-key-of c = search needs
-
-sub-key-of : tie.Need-sub-key-of
-sub-key-of c = search needs
-
-part-key-of-start : tie.Need-part-key-of-start
-part-key-of-start c = search needs
-
-part-key-of-end : tie.Need-part-key-of-end
-part-key-of-end c = search needs
-
-key-of-requires : tie.Need-key-of-requires
-key-of-requires c κs = search needs
-
-look-up-requires : tie.Need-look-up-requires
-look-up-requires c κs = search needs
-
-enum-known-p : tie.Need-enum-known-p
-enum-known-p c = search needs
-
-enum-told : tie.Need-enum-told
-enum-told c = search needs
-
 returns : tie.Need-returns
 returns c =
     let a = c .before .before .before .before .before .before .before .before .before .args in
@@ -45,14 +18,14 @@ pub is-repeat-spec : {M : Type 1} → statement M
 is-repeat-spec =
     tie.close
     (tie.spec
-    add-key-of
-    mul-key-of
-    sub-key-of
-    part-key-of-start
-    part-key-of-end
-    key-of-requires
-    look-up-requires
-    enum-known-p
-    enum-told
+    (λ c. search needs)
+    (λ c. search needs)
+    (λ c. search needs)
+    (λ c. search needs)
+    (λ c. search needs)
+    (λ c κs. search needs)
+    (λ c κs. search needs)
+    (λ c. search needs)
+    (λ c. search needs)
     returns
     returns-2)

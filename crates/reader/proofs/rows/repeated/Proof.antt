@@ -7,12 +7,6 @@ use Rattle.hash_index.specs.IndexLaws.{serves-few}
 use Rattle.reader.proofs.rows.repeated.Statement.{statement}
 use Rattle.reader.proofs.rows.repeated.Tie as tie
 
-info-at-requires : tie.Need-info-at-requires
-info-at-requires c κs = search needs
-
-serves-requires : tie.Need-serves-requires
-serves-requires c κs = search needs
-
 first-indexed-requires : tie.Need-first-indexed-requires
 first-indexed-requires c κs =
     let w = now (c .before .before .before .before .args .words) in
@@ -20,9 +14,6 @@ first-indexed-requires c κs =
 
 returns : tie.Need-returns
 returns c = c .first-indexed .ensures (c .before .before .before .before .before .args .at) (c .before .before .before .info-at .ensures)
-
-slice-aggregate-first-repeat : tie.Need-slice-aggregate-first-repeat
-slice-aggregate-first-repeat c = search needs
 
 first-repeat-requires : tie.Need-first-repeat-requires
 first-repeat-requires c κs =
@@ -36,10 +27,10 @@ pub repeated-spec : {M : Type 1} → statement M
 repeated-spec =
     tie.close
     (tie.spec
-    info-at-requires
-    serves-requires
+    (λ c κs. search needs)
+    (λ c κs. search needs)
     first-indexed-requires
     returns
-    slice-aggregate-first-repeat
+    (λ c. search needs)
     first-repeat-requires
     returns-2)

@@ -3,21 +3,6 @@ use borrow.Author.Needs.{needs}
 use Rattle.reader.proofs.scan.drawn.Statement.{statement}
 use Rattle.reader.proofs.scan.drawn.Tie as tie
 
-enum-told : tie.Need-enum-told
-enum-told c = search needs
-
-enum-told-2 : tie.Need-enum-told-2
-enum-told-2 c = search needs
-
-enum-known-test : tie.Need-enum-known-test
-enum-known-test c = search needs
-
-enum-known-test-2 : tie.Need-enum-known-test-2
-enum-known-test-2 c = search needs
-
-enum-known-test-3 : tie.Need-enum-known-test-3
-enum-known-test-3 c = search needs
-
 returns : tie.Need-returns
 returns c = rw (c .before .before .test3 .given .1, lt-leb _ _ (c .if4 .taken))
 
@@ -52,11 +37,11 @@ pub drawn-spec : {M : Type 1} → statement M
 drawn-spec =
     tie.close
     (tie.spec
-    enum-told
-    enum-told-2
-    enum-known-test
-    enum-known-test-2
-    enum-known-test-3
+    (λ c. search needs)
+    (λ c. search needs)
+    (λ c. search needs)
+    (λ c. search needs)
+    (λ c. search needs)
     returns
     returns-2
     returns-3

@@ -4,21 +4,6 @@ use borrow.Author.Needs.{needs}
 use Rattle.reader.proofs.scan.word.Statement.{statement}
 use Rattle.reader.proofs.scan.word.Tie as tie
 
-enum-told : tie.Need-enum-told
-enum-told c = search needs
-
-enum-known-s : tie.Need-enum-known-s
-enum-known-s c = search needs
-
-take-requires : tie.Need-take-requires
-take-requires c κs = search needs
-
-drawn-requires : tie.Need-drawn-requires
-drawn-requires c κs = search needs
-
-mark-requires : tie.Need-mark-requires
-mark-requires c κs = search needs
-
 returns : tie.Need-returns
 unfolding step
 returns c = rw (c .enum-told .given .1)
@@ -42,11 +27,11 @@ pub word-spec : {M : Type 1} → statement M
 word-spec =
     tie.close
     (tie.spec
-    enum-told
-    enum-known-s
-    take-requires
-    drawn-requires
-    mark-requires
+    (λ c. search needs)
+    (λ c. search needs)
+    (λ c κs. search needs)
+    (λ c κs. search needs)
+    (λ c κs. search needs)
     returns
     returns-2
     returns-3)

@@ -9,42 +9,6 @@ use borrow.Author.Needs.{needs}
 use Rattle.report.proofs.lines.log.Statement.{statement}
 use Rattle.report.proofs.lines.log.Tie as tie
 
-word-requires : tie.Need-word-requires
-word-requires c κs = search needs
-
-size-requires : tie.Need-size-requires
-size-requires c κs = search needs
-
-before-requires : tie.Need-before-requires
-before-requires c κs = search needs
-
-body-requires : tie.Need-body-requires
-body-requires c κs = search needs
-
-rest-requires : tie.Need-rest-requires
-rest-requires c κs = search needs
-
-records-requires : tie.Need-records-requires
-records-requires c κs = search needs
-
-word-requires-2 : tie.Need-word-requires-2
-word-requires-2 c κs = search needs
-
-wide-word-requires : tie.Need-wide-word-requires
-wide-word-requires c κs = search needs
-
-slice-aggregate-line : tie.Need-slice-aggregate-line
-slice-aggregate-line c = search needs
-
-slice-aggregate-line-2 : tie.Need-slice-aggregate-line-2
-slice-aggregate-line-2 c = search needs
-
-line-requires : tie.Need-line-requires
-line-requires c κs = search needs
-
-same-length : tie.Need-same-length
-same-length c = search needs
-
 returns : tie.Need-returns
 unfolding lineBytes
 returns c =
@@ -61,16 +25,16 @@ pub log-spec : {M : Type 1} → statement M
 log-spec =
     tie.close
     (tie.spec
-    word-requires
-    size-requires
-    before-requires
-    body-requires
-    rest-requires
-    records-requires
-    word-requires-2
-    wide-word-requires
-    slice-aggregate-line
-    slice-aggregate-line-2
-    line-requires
-    same-length
+    (λ c κs. search needs)
+    (λ c κs. search needs)
+    (λ c κs. search needs)
+    (λ c κs. search needs)
+    (λ c κs. search needs)
+    (λ c κs. search needs)
+    (λ c κs. search needs)
+    (λ c κs. search needs)
+    (λ c. search needs)
+    (λ c. search needs)
+    (λ c κs. search needs)
+    (λ c. search needs)
     returns)

@@ -17,24 +17,12 @@ Inv-loop words family out₀ at n lines₀ i₀ out lines i =
 abbrev μ-loop : tie.MeasureT-loop
 μ-loop words family out₀ at n lines₀ i₀ out lines i = n - i
 
-word-requires : tie.Need-word-requires Inv-loop μ-loop
-word-requires c κs = search needs
-
-size-requires : tie.Need-size-requires Inv-loop μ-loop
-size-requires c κs = search needs
-
 loop-holds : tie.Need-loop-holds Inv-loop μ-loop
 unfolding numbered
 loop-holds c = (search needs, search needs, search needs, written-none (now (c .before .before .before .before .args .out)) (record { count = 0; at = c .before .before .before .before .args .at }))
 
 entry-requires : tie.Need-entry-requires Inv-loop μ-loop
 entry-requires c κs = (omega (arith, c .before .before .before .size .ensures .1), c .before .before .loop .inv .2)
-
-add-i : tie.Need-add-i Inv-loop μ-loop
-add-i c = search needs
-
-loop-less : tie.Need-loop-less Inv-loop μ-loop
-loop-less c = search needs
 
 loop-again : tie.Need-loop-again Inv-loop μ-loop
 loop-again c =
@@ -61,12 +49,12 @@ numbered-spec =
     (tie.spec
     Inv-loop
     μ-loop
-    word-requires
-    size-requires
+    (λ c κs. search needs)
+    (λ c κs. search needs)
     loop-holds
     entry-requires
-    add-i
-    loop-less
+    (λ c. search needs)
+    (λ c. search needs)
     loop-again
     same-length
     returns)

@@ -18,9 +18,6 @@ Inv-loop words log out₀ at next₀ p₀ end₀ out next p end =
 abbrev μ-loop : tie.MeasureT-loop
 μ-loop words log out₀ at next₀ p₀ end₀ out next p end = length log - p
 
-end-of-requires : tie.Need-end-of-requires Inv-loop μ-loop
-end-of-requires c κs = search needs
-
 loop-holds : tie.Need-loop-holds Inv-loop μ-loop
 loop-holds c = (c .end-of .ensures, refl, reached-none _ _ _ _)
 
@@ -29,9 +26,6 @@ record-line-requires c κs =
     let a = c .before .before .before .before .before .before .before .args in
     let l = c .before .before .loop in
     (omega (arith, end-after (now (a .words)) (now (a .log)) (l .p), l .inv .0), c .before .loop-test .taken)
-
-end-of-requires-2 : tie.Need-end-of-requires-2 Inv-loop μ-loop
-end-of-requires-2 c κs = search needs
 
 loop-less : tie.Need-loop-less Inv-loop μ-loop
 loop-less c =
@@ -64,10 +58,10 @@ records-spec =
     (tie.spec
     Inv-loop
     μ-loop
-    end-of-requires
+    (λ c κs. search needs)
     loop-holds
     record-line-requires
-    end-of-requires-2
+    (λ c κs. search needs)
     loop-less
     loop-again
     same-length

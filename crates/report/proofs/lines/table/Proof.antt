@@ -7,30 +7,6 @@ use borrow.Author.Needs.{needs}
 use Rattle.report.proofs.lines.table.Statement.{statement}
 use Rattle.report.proofs.lines.table.Tie as tie
 
-mul-word : tie.Need-mul-word
-mul-word c = search needs
-
-add-word : tie.Need-add-word
-add-word c = search needs
-
-word-requires : tie.Need-word-requires
-word-requires c κs = search needs
-
-slice-aggregate-pair : tie.Need-slice-aggregate-pair
-slice-aggregate-pair c = search needs
-
-body-requires : tie.Need-body-requires
-body-requires c κs = search needs
-
-word-requires-2 : tie.Need-word-requires-2
-word-requires-2 c κs = search needs
-
-pair-requires : tie.Need-pair-requires
-pair-requires c κs = search needs
-
-same-length : tie.Need-same-length
-same-length c = search needs
-
 returns : tie.Need-returns
 unfolding entryLine lineBytes
 returns c =
@@ -48,13 +24,13 @@ pub table-spec : {M : Type 1} → statement M
 table-spec =
     tie.close
     (tie.spec
-    mul-word
-    add-word
-    word-requires
-    slice-aggregate-pair
-    body-requires
-    word-requires-2
-    pair-requires
-    same-length
+    (λ c. search needs)
+    (λ c. search needs)
+    (λ c κs. search needs)
+    (λ c. search needs)
+    (λ c κs. search needs)
+    (λ c κs. search needs)
+    (λ c κs. search needs)
+    (λ c. search needs)
     returns
     returns-2)

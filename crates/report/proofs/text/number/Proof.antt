@@ -7,24 +7,6 @@ use borrow.Author.Needs.{needs}
 use Rattle.report.proofs.text.number.Statement.{statement}
 use Rattle.report.proofs.text.number.Tie as tie
 
-decimal-requires : tie.Need-decimal-requires
-decimal-requires c κs = search needs
-
-push-requires : tie.Need-push-requires
-push-requires c κs = search needs
-
-array-share-prefix-digits : tie.Need-array-share-prefix-digits
-array-share-prefix-digits c = search needs
-
-slice-aggregate-append : tie.Need-slice-aggregate-append
-slice-aggregate-append c = search needs
-
-append-requires : tie.Need-append-requires
-append-requires c κs = search needs
-
-same-length : tie.Need-same-length
-same-length c = search needs
-
 returns : tie.Need-returns
 unfolding appended
 returns c =
@@ -37,10 +19,10 @@ pub number-spec : {M : Type 1} → statement M
 number-spec =
     tie.close
     (tie.spec
-    decimal-requires
-    push-requires
-    array-share-prefix-digits
-    slice-aggregate-append
-    append-requires
-    same-length
+    (λ c κs. search needs)
+    (λ c κs. search needs)
+    (λ c. search needs)
+    (λ c. search needs)
+    (λ c κs. search needs)
+    (λ c. search needs)
     returns)

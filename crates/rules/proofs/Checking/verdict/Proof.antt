@@ -2,24 +2,6 @@ use borrow.Author.Needs.{needs}
 use Rattle.rules.proofs.Checking.verdict.Statement.{statement}
 use Rattle.rules.proofs.Checking.verdict.Tie as tie
 
-enum-told : tie.Need-enum-told
-enum-told c = search needs
-
-enum-known-self : tie.Need-enum-known-self
-enum-known-self c = search needs
-
-enum-known-self-2 : tie.Need-enum-known-self-2
-enum-known-self-2 c = search needs
-
-enum-known-self-3 : tie.Need-enum-known-self-3
-enum-known-self-3 c = search needs
-
-enum-known-self-4 : tie.Need-enum-known-self-4
-enum-known-self-4 c = search needs
-
-returns : tie.Need-returns
-returns c = search needs
-
 returns-2 : tie.Need-returns-2
 returns-2 c = rw (c .before .self .given .1)
 
@@ -36,12 +18,12 @@ pub verdict-spec : {M : Type 1} → statement M
 verdict-spec =
     tie.close
     (tie.spec
-    enum-told
-    enum-known-self
-    enum-known-self-2
-    enum-known-self-3
-    enum-known-self-4
-    returns
+    (λ c. search needs)
+    (λ c. search needs)
+    (λ c. search needs)
+    (λ c. search needs)
+    (λ c. search needs)
+    (λ c. search needs)
     returns-2
     returns-3
     returns-4

@@ -8,9 +8,6 @@ use borrow.Author.Needs.{needs}
 use Rattle.rules.proofs.instructions.columns_fit.Statement.{statement}
 use Rattle.rules.proofs.instructions.columns_fit.Tie as tie
 
-enum-known-i : tie.Need-enum-known-i
-enum-known-i c = search needs
-
 column-fits-requires : tie.Need-column-fits-requires
 column-fits-requires c κs =
     let q = c .before .before .before .before .pre in
@@ -28,17 +25,11 @@ currents-fit-requires c κs =
     let s = rw (c .before .before .before .i .given .1) at (c .before .before .before .before .before .before .pre .1) in
     (s .2, c .keys-of .ensures .1)
 
-enum-known-i-2 : tie.Need-enum-known-i-2
-enum-known-i-2 c = search needs
-
 column-fits-requires-2 : tie.Need-column-fits-requires-2
 column-fits-requires-2 c κs =
     let q = c .before .before .before .before .pre in
     let s = rw (c .before .i2 .given .1) at (q .1) in
     omega (arith, s .0, few-tables (now (c .before .before .before .before .args .words)) (q .0))
-
-enum-known-i-3 : tie.Need-enum-known-i-3
-enum-known-i-3 c = search needs
 
 column-fits-requires-3 : tie.Need-column-fits-requires-3
 column-fits-requires-3 c κs =
@@ -46,41 +37,11 @@ column-fits-requires-3 c κs =
     let s = rw (c .before .i3 .given .1) at (q .1) in
     omega (arith, s .0, few-tables (now (c .before .before .before .before .args .words)) (q .0))
 
-enum-known-i-4 : tie.Need-enum-known-i-4
-enum-known-i-4 c = search needs
-
 column-fits-requires-4 : tie.Need-column-fits-requires-4
 column-fits-requires-4 c κs =
     let q = c .before .before .before .before .pre in
     let s = rw (c .before .i4 .given .1) at (q .1) in
     omega (arith, s .0, few-tables (now (c .before .before .before .before .args .words)) (q .0))
-
-enum-told : tie.Need-enum-told
-enum-told c = search needs
-
-enum-told-2 : tie.Need-enum-told-2
-enum-told-2 c = search needs
-
-enum-told-3 : tie.Need-enum-told-3
-enum-told-3 c = search needs
-
-enum-told-4 : tie.Need-enum-told-4
-enum-told-4 c = search needs
-
-enum-told-5 : tie.Need-enum-told-5
-enum-told-5 c = search needs
-
-enum-told-6 : tie.Need-enum-told-6
-enum-told-6 c = search needs
-
-enum-told-7 : tie.Need-enum-told-7
-enum-told-7 c = search needs
-
-enum-told-8 : tie.Need-enum-told-8
-enum-told-8 c = search needs
-
-enum-told-9 : tie.Need-enum-told-9
-enum-told-9 c = search needs
 
 returns : tie.Need-returns
 unfolding instrOf columnsOf
@@ -156,25 +117,25 @@ pub columns-fit-spec : {M : Type 1} → statement M
 columns-fit-spec =
     tie.close
     (tie.spec
-    enum-known-i
+    (λ c. search needs)
     column-fits-requires
     keys-of-requires
     currents-fit-requires
-    enum-known-i-2
+    (λ c. search needs)
     column-fits-requires-2
-    enum-known-i-3
+    (λ c. search needs)
     column-fits-requires-3
-    enum-known-i-4
+    (λ c. search needs)
     column-fits-requires-4
-    enum-told
-    enum-told-2
-    enum-told-3
-    enum-told-4
-    enum-told-5
-    enum-told-6
-    enum-told-7
-    enum-told-8
-    enum-told-9
+    (λ c. search needs)
+    (λ c. search needs)
+    (λ c. search needs)
+    (λ c. search needs)
+    (λ c. search needs)
+    (λ c. search needs)
+    (λ c. search needs)
+    (λ c. search needs)
+    (λ c. search needs)
     returns
     returns-2
     returns-3

@@ -7,9 +7,6 @@ use borrow.Author.Needs.{needs}
 use Rattle.rules.proofs.instructions.held_free.Statement.{statement}
 use Rattle.rules.proofs.instructions.held_free.Tie as tie
 
-enum-known-i : tie.Need-enum-known-i
-enum-known-i c = search needs
-
 all-free-requires : tie.Need-all-free-requires
 all-free-requires c κs =
     let s = rw (c .before .i .given .1) at (c .before .before .before .before .pre) in
@@ -20,51 +17,15 @@ all-free-requires-2 c κs =
     let s = rw (c .before .before .i .given .1) at (c .before .before .before .before .before .pre) in
     s .2
 
-enum-told : tie.Need-enum-told
-enum-told c = search needs
-
-enum-told-2 : tie.Need-enum-told-2
-enum-told-2 c = search needs
-
-enum-known-i-2 : tie.Need-enum-known-i-2
-enum-known-i-2 c = search needs
-
 all-free-requires-3 : tie.Need-all-free-requires-3
 all-free-requires-3 c κs =
     let s = rw (c .before .i2 .given .1) at (c .before .before .before .before .pre) in
     s .2
 
-enum-told-3 : tie.Need-enum-told-3
-enum-told-3 c = search needs
-
-enum-told-4 : tie.Need-enum-told-4
-enum-told-4 c = search needs
-
-enum-told-5 : tie.Need-enum-told-5
-enum-told-5 c = search needs
-
-enum-told-6 : tie.Need-enum-told-6
-enum-told-6 c = search needs
-
-enum-known-i-3 : tie.Need-enum-known-i-3
-enum-known-i-3 c = search needs
-
 all-free-requires-4 : tie.Need-all-free-requires-4
 all-free-requires-4 c κs =
     let s = rw (c .before .i3 .given .1) at (c .before .before .before .before .pre) in
     s .1
-
-enum-told-7 : tie.Need-enum-told-7
-enum-told-7 c = search needs
-
-enum-told-8 : tie.Need-enum-told-8
-enum-told-8 c = search needs
-
-enum-told-9 : tie.Need-enum-told-9
-enum-told-9 c = search needs
-
-enum-told-10 : tie.Need-enum-told-10
-enum-told-10 c = search needs
 
 returns : tie.Need-returns
 unfolding instrOf heldOf
@@ -124,23 +85,23 @@ pub held-free-spec : {M : Type 1} → statement M
 held-free-spec =
     tie.close
     (tie.spec
-    enum-known-i
+    (λ c. search needs)
     all-free-requires
     all-free-requires-2
-    enum-told
-    enum-told-2
-    enum-known-i-2
+    (λ c. search needs)
+    (λ c. search needs)
+    (λ c. search needs)
     all-free-requires-3
-    enum-told-3
-    enum-told-4
-    enum-told-5
-    enum-told-6
-    enum-known-i-3
+    (λ c. search needs)
+    (λ c. search needs)
+    (λ c. search needs)
+    (λ c. search needs)
+    (λ c. search needs)
     all-free-requires-4
-    enum-told-7
-    enum-told-8
-    enum-told-9
-    enum-told-10
+    (λ c. search needs)
+    (λ c. search needs)
+    (λ c. search needs)
+    (λ c. search needs)
     returns
     returns-2
     returns-3

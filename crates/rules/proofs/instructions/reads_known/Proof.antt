@@ -9,9 +9,6 @@ use borrow.Author.Needs.{needs}
 use Rattle.rules.proofs.instructions.reads_known.Statement.{statement}
 use Rattle.rules.proofs.instructions.reads_known.Tie as tie
 
-enum-known-i : tie.Need-enum-known-i
-enum-known-i c = search needs
-
 all-known-requires : tie.Need-all-known-requires
 all-known-requires c κs =
     let s = rw (c .before .i .given .1) at (c .before .before .before .before .pre) in
@@ -22,27 +19,15 @@ all-known-requires-2 c κs =
     let s = rw (c .before .before .i .given .1) at (c .before .before .before .before .before .pre) in
     s .2
 
-enum-known-i-2 : tie.Need-enum-known-i-2
-enum-known-i-2 c = search needs
-
-known-requires : tie.Need-known-requires
-known-requires c κs = search needs
-
 all-known-requires-3 : tie.Need-all-known-requires-3
 all-known-requires-3 c κs =
     let s = rw (c .before .before .i2 .given .1) at (c .before .before .before .before .before .pre) in
     s .1
 
-enum-known-i-3 : tie.Need-enum-known-i-3
-enum-known-i-3 c = search needs
-
 all-known-requires-4 : tie.Need-all-known-requires-4
 all-known-requires-4 c κs =
     let s = rw (c .before .i3 .given .1) at (c .before .before .before .before .pre) in
     s .1
-
-enum-known-i-4 : tie.Need-enum-known-i-4
-enum-known-i-4 c = search needs
 
 all-known-requires-5 : tie.Need-all-known-requires-5
 all-known-requires-5 c κs =
@@ -54,46 +39,25 @@ all-known-requires-6 c κs =
     let s = rw (c .before .before .i4 .given .1) at (c .before .before .before .before .before .pre) in
     s .2
 
-enum-known-i-5 : tie.Need-enum-known-i-5
-enum-known-i-5 c = search needs
-
 all-known-requires-7 : tie.Need-all-known-requires-7
 all-known-requires-7 c κs =
     let s = rw (c .before .i5 .given .1) at (c .before .before .before .before .pre) in
     s .1
-
-enum-known-i-6 : tie.Need-enum-known-i-6
-enum-known-i-6 c = search needs
-
-known-requires-2 : tie.Need-known-requires-2
-known-requires-2 c κs = search needs
-
-known-requires-3 : tie.Need-known-requires-3
-known-requires-3 c κs = search needs
 
 all-known-requires-8 : tie.Need-all-known-requires-8
 all-known-requires-8 c κs =
     let s = rw (c .before .before .before .i6 .given .1) at (c .before .before .before .before .before .before .pre) in
     s .1
 
-enum-known-i-7 : tie.Need-enum-known-i-7
-enum-known-i-7 c = search needs
-
 all-known-requires-9 : tie.Need-all-known-requires-9
 all-known-requires-9 c κs =
     let s = rw (c .before .i7 .given .1) at (c .before .before .before .before .pre) in
     s .1
 
-enum-known-i-8 : tie.Need-enum-known-i-8
-enum-known-i-8 c = search needs
-
 all-known-requires-10 : tie.Need-all-known-requires-10
 all-known-requires-10 c κs =
     let s = rw (c .before .i8 .given .1) at (c .before .before .before .before .pre) in
     s .0
-
-enum-known-i-9 : tie.Need-enum-known-i-9
-enum-known-i-9 c = search needs
 
 all-known-requires-11 : tie.Need-all-known-requires-11
 all-known-requires-11 c κs =
@@ -105,34 +69,10 @@ all-known-requires-12 c κs =
     let s = rw (c .before .before .i9 .given .1) at (c .before .before .before .before .before .pre) in
     s .1
 
-enum-known-i-10 : tie.Need-enum-known-i-10
-enum-known-i-10 c = search needs
-
-known-requires-4 : tie.Need-known-requires-4
-known-requires-4 c κs = search needs
-
-known-requires-5 : tie.Need-known-requires-5
-known-requires-5 c κs = search needs
-
-enum-known-i-11 : tie.Need-enum-known-i-11
-enum-known-i-11 c = search needs
-
-known-requires-6 : tie.Need-known-requires-6
-known-requires-6 c κs = search needs
-
-known-requires-7 : tie.Need-known-requires-7
-known-requires-7 c κs = search needs
-
-enum-known-i-12 : tie.Need-enum-known-i-12
-enum-known-i-12 c = search needs
-
 all-known-requires-13 : tie.Need-all-known-requires-13
 all-known-requires-13 c κs =
     let s = rw (c .before .i12 .given .1) at (c .before .before .before .before .pre) in
     s
-
-enum-told : tie.Need-enum-told
-enum-told c = search needs
 
 returns : tie.Need-returns
 unfolding instrOf readsOf
@@ -193,39 +133,39 @@ pub reads-known-spec : {M : Type 1} → statement M
 reads-known-spec =
     tie.close
     (tie.spec
-    enum-known-i
+    (λ c. search needs)
     all-known-requires
     all-known-requires-2
-    enum-known-i-2
-    known-requires
+    (λ c. search needs)
+    (λ c κs. search needs)
     all-known-requires-3
-    enum-known-i-3
+    (λ c. search needs)
     all-known-requires-4
-    enum-known-i-4
+    (λ c. search needs)
     all-known-requires-5
     all-known-requires-6
-    enum-known-i-5
+    (λ c. search needs)
     all-known-requires-7
-    enum-known-i-6
-    known-requires-2
-    known-requires-3
+    (λ c. search needs)
+    (λ c κs. search needs)
+    (λ c κs. search needs)
     all-known-requires-8
-    enum-known-i-7
+    (λ c. search needs)
     all-known-requires-9
-    enum-known-i-8
+    (λ c. search needs)
     all-known-requires-10
-    enum-known-i-9
+    (λ c. search needs)
     all-known-requires-11
     all-known-requires-12
-    enum-known-i-10
-    known-requires-4
-    known-requires-5
-    enum-known-i-11
-    known-requires-6
-    known-requires-7
-    enum-known-i-12
+    (λ c. search needs)
+    (λ c κs. search needs)
+    (λ c κs. search needs)
+    (λ c. search needs)
+    (λ c κs. search needs)
+    (λ c κs. search needs)
+    (λ c. search needs)
     all-known-requires-13
-    enum-told
+    (λ c. search needs)
     returns
     returns-2
     returns-3

@@ -9,9 +9,6 @@ use borrow.Author.Needs.{needs}
 use Rattle.rules.proofs.instructions.sizes_fit.Statement.{statement}
 use Rattle.rules.proofs.instructions.sizes_fit.Tie as tie
 
-enum-known-i : tie.Need-enum-known-i
-enum-known-i c = search needs
-
 keys-fit-requires : tie.Need-keys-fit-requires
 keys-fit-requires c κs =
     let q = c .before .before .before .before .pre in
@@ -24,17 +21,11 @@ row-fits-requires c κs =
     let s = rw (c .before .before .i .given .1) at (q .1) in
     (omega (arith, s .0, few-tables (now (c .before .before .before .before .before .args .words)) (q .0)), s .1, s .2)
 
-enum-known-i-2 : tie.Need-enum-known-i-2
-enum-known-i-2 c = search needs
-
 keys-fit-requires-2 : tie.Need-keys-fit-requires-2
 keys-fit-requires-2 c κs =
     let q = c .before .before .before .before .pre in
     let s = rw (c .before .i2 .given .1) at (q .1) in
     omega (arith, s .0, few-tables (now (c .before .before .before .before .args .words)) (q .0))
-
-enum-known-i-3 : tie.Need-enum-known-i-3
-enum-known-i-3 c = search needs
 
 keys-fit-requires-3 : tie.Need-keys-fit-requires-3
 keys-fit-requires-3 c κs =
@@ -42,20 +33,11 @@ keys-fit-requires-3 c κs =
     let s = rw (c .before .i3 .given .1) at (q .1) in
     omega (arith, s .0, few-tables (now (c .before .before .before .before .args .words)) (q .0))
 
-enum-known-i-4 : tie.Need-enum-known-i-4
-enum-known-i-4 c = search needs
-
 keys-fit-requires-4 : tie.Need-keys-fit-requires-4
 keys-fit-requires-4 c κs =
     let q = c .before .before .before .before .pre in
     let s = rw (c .before .i4 .given .1) at (q .1) in
     omega (arith, s .0, few-tables (now (c .before .before .before .before .args .words)) (q .0))
-
-takes-requires : tie.Need-takes-requires
-takes-requires c κs = search needs
-
-enum-known-i-5 : tie.Need-enum-known-i-5
-enum-known-i-5 c = search needs
 
 width-fits-requires : tie.Need-width-fits-requires
 width-fits-requires c κs =
@@ -63,50 +45,17 @@ width-fits-requires c κs =
     let s = rw (c .before .i5 .given .1) at (q .1) in
     omega (arith, s .0, few-tables (now (c .before .before .before .before .args .words)) (q .0))
 
-enum-known-i-6 : tie.Need-enum-known-i-6
-enum-known-i-6 c = search needs
-
 width-fits-requires-2 : tie.Need-width-fits-requires-2
 width-fits-requires-2 c κs =
     let q = c .before .before .before .before .pre in
     let s = rw (c .before .i6 .given .1) at (q .1) in
     omega (arith, s .0, few-tables (now (c .before .before .before .before .args .words)) (q .0))
 
-enum-known-i-7 : tie.Need-enum-known-i-7
-enum-known-i-7 c = search needs
-
 keys-fit-requires-5 : tie.Need-keys-fit-requires-5
 keys-fit-requires-5 c κs =
     let q = c .before .before .before .before .pre in
     let s = rw (c .before .i7 .given .1) at (q .1) in
     omega (arith, s .0, few-tables (now (c .before .before .before .before .args .words)) (q .0))
-
-enum-known-i-8 : tie.Need-enum-known-i-8
-enum-known-i-8 c = search needs
-
-takes-requires-2 : tie.Need-takes-requires-2
-takes-requires-2 c κs = search needs
-
-enum-known-i-9 : tie.Need-enum-known-i-9
-enum-known-i-9 c = search needs
-
-takes-requires-3 : tie.Need-takes-requires-3
-takes-requires-3 c κs = search needs
-
-takes-requires-4 : tie.Need-takes-requires-4
-takes-requires-4 c κs = search needs
-
-enum-told : tie.Need-enum-told
-enum-told c = search needs
-
-enum-told-2 : tie.Need-enum-told-2
-enum-told-2 c = search needs
-
-enum-known-i-10 : tie.Need-enum-known-i-10
-enum-known-i-10 c = search needs
-
-enum-told-3 : tie.Need-enum-told-3
-enum-told-3 c = search needs
 
 returns : tie.Need-returns
 unfolding instrOf sizesOf
@@ -214,31 +163,31 @@ pub sizes-fit-spec : {M : Type 1} → statement M
 sizes-fit-spec =
     tie.close
     (tie.spec
-    enum-known-i
+    (λ c. search needs)
     keys-fit-requires
     row-fits-requires
-    enum-known-i-2
+    (λ c. search needs)
     keys-fit-requires-2
-    enum-known-i-3
+    (λ c. search needs)
     keys-fit-requires-3
-    enum-known-i-4
+    (λ c. search needs)
     keys-fit-requires-4
-    takes-requires
-    enum-known-i-5
+    (λ c κs. search needs)
+    (λ c. search needs)
     width-fits-requires
-    enum-known-i-6
+    (λ c. search needs)
     width-fits-requires-2
-    enum-known-i-7
+    (λ c. search needs)
     keys-fit-requires-5
-    enum-known-i-8
-    takes-requires-2
-    enum-known-i-9
-    takes-requires-3
-    takes-requires-4
-    enum-told
-    enum-told-2
-    enum-known-i-10
-    enum-told-3
+    (λ c. search needs)
+    (λ c κs. search needs)
+    (λ c. search needs)
+    (λ c κs. search needs)
+    (λ c κs. search needs)
+    (λ c. search needs)
+    (λ c. search needs)
+    (λ c. search needs)
+    (λ c. search needs)
     returns
     returns-2
     returns-3

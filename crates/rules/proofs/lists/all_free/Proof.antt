@@ -24,29 +24,11 @@ abbrev μ-loop : tie.MeasureT-loop
 loop-holds : tie.Need-loop-holds Inv-loop μ-loop
 loop-holds c = (search needs, λ i h. absurd (omega arith))
 
-mul-entry-at : tie.Need-mul-entry-at Inv-loop μ-loop
-mul-entry-at c = search needs
-
-add-entry-at : tie.Need-add-entry-at Inv-loop μ-loop
-add-entry-at c = search needs
-
-entry-at-requires : tie.Need-entry-at-requires Inv-loop μ-loop
-entry-at-requires c κs = search needs
-
-free-requires : tie.Need-free-requires Inv-loop μ-loop
-free-requires c κs = search needs
-
 returns : tie.Need-returns Inv-loop μ-loop
 returns c =
     let a = c .before .before .before .before .before .before .args in
     let w = now (a .words) in
     entries-no w (a .list) (λ e. free? (a .dst .0, e)) (c .before .before .before .before .loop .k) (c .before .before .before .loop-test .taken) (sym (c .before .free .ensures ∙ ap (λ (e : QueryEntry). free? (a .dst .0, e)) (ap entryOf (c .before .before .entry-at .ensures) ∙ entry-at w _)) ∙ not-true _ (c .if1 .taken))
-
-add-k : tie.Need-add-k Inv-loop μ-loop
-add-k c = search needs
-
-loop-less : tie.Need-loop-less Inv-loop μ-loop
-loop-less c = search needs
 
 loop-again : tie.Need-loop-again Inv-loop μ-loop
 loop-again c =
@@ -68,12 +50,12 @@ all-free-spec =
     Inv-loop
     μ-loop
     loop-holds
-    mul-entry-at
-    add-entry-at
-    entry-at-requires
-    free-requires
+    (λ c. search needs)
+    (λ c. search needs)
+    (λ c κs. search needs)
+    (λ c κs. search needs)
     returns
-    add-k
-    loop-less
+    (λ c. search needs)
+    (λ c. search needs)
     loop-again
     returns-2)

@@ -23,33 +23,12 @@ abbrev μ-loop : tie.MeasureT-loop
 loop-holds : tie.Need-loop-holds Inv-loop μ-loop
 loop-holds c = (search needs, λ i h. absurd (omega arith))
 
-mul-write-at : tie.Need-mul-write-at Inv-loop μ-loop
-mul-write-at c = search needs
-
-add-write-at : tie.Need-add-write-at Inv-loop μ-loop
-add-write-at c = search needs
-
-write-at-requires : tie.Need-write-at-requires Inv-loop μ-loop
-write-at-requires c κs = search needs
-
-add-current-fits : tie.Need-add-current-fits Inv-loop μ-loop
-add-current-fits c = search needs
-
-current-fits-requires : tie.Need-current-fits-requires Inv-loop μ-loop
-current-fits-requires c κs = search needs
-
 returns : tie.Need-returns Inv-loop μ-loop
 returns c =
     let a = c .before .before .before .before .before .before .args in
     let l = c .before .before .before .before .loop in
     let w = now (a .words) in
     currents-no w (a .list) (a .n) (l .k) (c .before .before .before .loop-test .taken) (sym (c .before .current-fits .ensures ∙ ap (currentFits (a .n + l .k)) (ap writeOf (c .before .before .write-at .ensures) ∙ write-at w _)) ∙ not-true _ (c .if1 .taken))
-
-add-k : tie.Need-add-k Inv-loop μ-loop
-add-k c = search needs
-
-loop-less : tie.Need-loop-less Inv-loop μ-loop
-loop-less c = search needs
 
 loop-again : tie.Need-loop-again Inv-loop μ-loop
 loop-again c =
@@ -72,13 +51,13 @@ currents-fit-spec =
     Inv-loop
     μ-loop
     loop-holds
-    mul-write-at
-    add-write-at
-    write-at-requires
-    add-current-fits
-    current-fits-requires
+    (λ c. search needs)
+    (λ c. search needs)
+    (λ c κs. search needs)
+    (λ c. search needs)
+    (λ c κs. search needs)
     returns
-    add-k
-    loop-less
+    (λ c. search needs)
+    (λ c. search needs)
     loop-again
     returns-2)

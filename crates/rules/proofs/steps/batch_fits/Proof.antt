@@ -7,24 +7,6 @@ use borrow.Author.Needs.{needs}
 use Rattle.rules.proofs.steps.batch_fits.Statement.{statement}
 use Rattle.rules.proofs.steps.batch_fits.Tie as tie
 
-word-requires : tie.Need-word-requires
-word-requires c κs = search needs
-
-size-requires : tie.Need-size-requires
-size-requires c κs = search needs
-
-add-word : tie.Need-add-word
-add-word c = search needs
-
-word-requires-2 : tie.Need-word-requires-2
-word-requires-2 c κs = search needs
-
-add-word-2 : tie.Need-add-word-2
-add-word-2 c = search needs
-
-word-requires-3 : tie.Need-word-requires-3
-word-requires-3 c κs = search needs
-
 add-first-of : tie.Need-add-first-of
 add-first-of c =
     let q = c .before .before .before .before .before .pre in
@@ -34,9 +16,6 @@ first-of-requires : tie.Need-first-of-requires
 first-of-requires c κs =
     let q = c .before .before .before .before .before .pre in
     omega (arith, q .1, c .before .before .size .ensures .0, c .before .before .before .word .ensures, rule-entry (now (c .before .before .before .before .before .args .words)) (q .0) _ (q .3))
-
-word-requires-4 : tie.Need-word-requires-4
-word-requires-4 c κs = search needs
 
 returns : tie.Need-returns
 returns c =
@@ -48,13 +27,13 @@ pub batch-fits-spec : {M : Type 1} → statement M
 batch-fits-spec =
     tie.close
     (tie.spec
-    word-requires
-    size-requires
-    add-word
-    word-requires-2
-    add-word-2
-    word-requires-3
+    (λ c κs. search needs)
+    (λ c κs. search needs)
+    (λ c. search needs)
+    (λ c κs. search needs)
+    (λ c. search needs)
+    (λ c κs. search needs)
     add-first-of
     first-of-requires
-    word-requires-4
+    (λ c κs. search needs)
     returns)
