@@ -1,8 +1,8 @@
 // An index over the rows of one or more tables, by key: 1024 heads and 1024 tails of chains, then a link for each row. A word of it is a row's number plus 1, or 0 for none. A chain has the rows whose keys have one home, ascending. The rows of a table are numbered on end, from the number of its first row on.
-mod book;
+mod all_tables;
 
-pub use book::build_all;
-pub use book::rows_before;
+pub use all_tables::build_all;
+pub use all_tables::rows_before;
 ghost use mathlib.Core.Path.{_≡_};
 ghost use mathlib.Core.Bool.{true};
 ghost use Prim.Native.Nat.{_+_, _-_, _*_, _^_, _≤_, _<_};

@@ -9,10 +9,10 @@ ghost use Rattle.model.specs.Outcome as outcome;
 ghost use Rattle.rules.specs.Rules.{refusalOf, isRefusal, unfitOf, verdictOf};
 ghost use Rattle.model.specs.Laws.Book.{Readable};
 
+mod fit;
 mod instructions;
 mod lists;
 mod shapes;
-mod steps;
 
 use bound::Bound;
 use reader::Reading;
@@ -129,7 +129,7 @@ pub fn fit_steps(words: &[u32]) -> Fitting
     let n = words::size(z.steps);
     let mut k = 0;
     while k < n {
-        if !steps::step_fits(words, base, steps, k) {
+        if !fit::step_fits(words, base, steps, k) {
             return Fitting::Unfit(steps + k);
         }
         k += 1;

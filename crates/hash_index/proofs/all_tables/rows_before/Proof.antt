@@ -4,8 +4,8 @@ use native.Mathlib.Numerals.{add-one}
 use native.Mathlib.Omega.{arith}
 use Rattle.hash_index.specs.Book.{rowsBefore}
 use borrow.Author.Needs.{needs}
-use Rattle.hash_index.proofs.book.rows_before.Statement.{statement}
-use Rattle.hash_index.proofs.book.rows_before.Tie as tie
+use Rattle.hash_index.proofs.all_tables.rows_before.Statement.{statement}
+use Rattle.hash_index.proofs.all_tables.rows_before.Tie as tie
 
 abbrev Inv-loop : tie.InvT-loop
 Inv-loop words n rows₀ t₀ rows t = (t ≤ n) × (rows ≤ t * 4294967295) × (rows ≡ rowsBefore words t)

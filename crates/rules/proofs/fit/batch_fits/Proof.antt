@@ -4,8 +4,8 @@ use denote.Ref.{now}
 use Rattle.model.specs.Laws.Book.{rule-entry}
 use Rattle.rules.specs.StepLaws.{batch-test}
 use borrow.Author.Needs.{needs}
-use Rattle.rules.proofs.steps.batch_fits.Statement.{statement}
-use Rattle.rules.proofs.steps.batch_fits.Tie as tie
+use Rattle.rules.proofs.fit.batch_fits.Statement.{statement}
+use Rattle.rules.proofs.fit.batch_fits.Tie as tie
 
 add-first-of : tie.Need-add-first-of
 add-first-of c =

@@ -4,8 +4,8 @@ use denote.Ref.{now}
 use Rattle.model.specs.Laws.Book.{few-tables}
 use Rattle.rules.specs.StepLaws.{prediction-test}
 use borrow.Author.Needs.{needs}
-use Rattle.rules.proofs.steps.prediction_fits.Statement.{statement}
-use Rattle.rules.proofs.steps.prediction_fits.Tie as tie
+use Rattle.rules.proofs.fit.prediction_fits.Statement.{statement}
+use Rattle.rules.proofs.fit.prediction_fits.Tie as tie
 
 keys-of-requires : tie.Need-keys-of-requires
 keys-of-requires c κs =

@@ -5,8 +5,8 @@ use denote.Ref.{now}
 use Rattle.model.specs.Book.Read.{tables, rules, stepFits}
 use Rattle.model.specs.Laws.Book.{step-entry}
 use Rattle.rules.specs.StepLaws.{batch-here, step-batch, not-batch, prediction-here, step-prediction}
-use Rattle.rules.proofs.steps.step_fits.Statement.{statement}
-use Rattle.rules.proofs.steps.step_fits.Tie as tie
+use Rattle.rules.proofs.fit.step_fits.Statement.{statement}
+use Rattle.rules.proofs.fit.step_fits.Tie as tie
 
 add-kind-of : tie.Need-add-kind-of
 add-kind-of c =

@@ -8,8 +8,8 @@ use Rattle.tables.specs.declared.TableInfo.{TableInfo}
 use Rattle.hash_index.specs.Book.{rowsBefore, bookIndexed}
 use Rattle.hash_index.specs.BookLaws.{before-within, book-tails}
 use borrow.Author.Needs.{needs}
-use Rattle.hash_index.proofs.book.build_all.Statement.{statement}
-use Rattle.hash_index.proofs.book.build_all.Tie as tie
+use Rattle.hash_index.proofs.all_tables.build_all.Statement.{statement}
+use Rattle.hash_index.proofs.all_tables.build_all.Tie as tie
 
 abbrev Inv-loop : tie.InvT-loop
 Inv-loop words n index₀ first₀ t₀ index first t = (t ≤ n) × (first ≡ rowsBefore words t) × (index ≡ bookIndexed words t)
