@@ -10,15 +10,17 @@ use Rattle.action.proofs.act.Tie as tie
 
 lookup-or-insert-default-requires : tie.Need-lookup-or-insert-default-requires
 lookup-or-insert-default-requires c κs =
+    let i = c .before .before .before .before .i in
     let p = c .before .before .before .before .before .before .before .before .before .before .before .before .pre in
-    let s = rw (c .before .before .before .before .i .given .1) at (p .2) in
+    let s = rw (i .given .1) at (p .2) in
     (p .0, p .1, s .0, s .1, s .2, p .3, p .4)
 
 fill-or-else-requires : tie.Need-fill-or-else-requires
 fill-or-else-requires c κs =
+    let i2 = c .before .before .before .before .i2 in
     let a = c .before .before .before .before .before .before .before .before .before .before .before .before .args in
     let p = c .before .before .before .before .before .before .before .before .before .before .before .before .pre in
-    let s = rw (c .before .before .before .before .i2 .given .1) at (p .2) in
+    let s = rw (i2 .given .1) at (p .2) in
     let e = entry-fits (now (a .words)) (now (a .committed)) _ _ (c .before .entry-ask .ensures) in
     rw (c .before .before .row-ask .ensures) ((searchable (now (a .words)) (now (a .committed)) (p .0) (p .1) _ (s .0), s .1), e, p .4)
 
@@ -67,71 +69,110 @@ fill-or-else-requires-3 c κs =
     (s .0, s .1, p .4)
 
 retain-requires-4 : tie.Need-retain-requires-4
-retain-requires-4 c κs = rw (c .before .i12 .given .1) at (c .before .before .before .before .before .before .before .before .before .pre .2)
+retain-requires-4 c κs =
+    let pre = c .before .before .before .before .before .before .before .before .before .pre in
+    rw (c .before .i12 .given .1) at (pre .2)
 
 returns : tie.Need-returns
 unfolding acted
-returns c = let e = c .before .before .before .before .before .before .lookup-or-insert-default .ensures in (rw (c .before .before .before .before .before .before .before .before .before .before .before .i .given .1) (e .0), e .1)
+returns c =
+    let i = c .before .before .before .before .before .before .before .before .before .before .before .i in
+    let lookup-or-insert-default = c .before .before .before .before .before .before .lookup-or-insert-default in
+    let e = lookup-or-insert-default .ensures in (rw (i .given .1) (e .0), e .1)
 
 returns-2 : tie.Need-returns-2
 unfolding acted
-returns-2 c = let e = c .before .before .fill-or-else .ensures in (rw (c .before .before .before .before .before .before .before .i2 .given .1, e .0, e .1, c .before .before .before .before .before .row-ask .ensures, c .before .before .before .before .entry-ask .ensures), c .before .before .before .before .before .before .before .before .before .before .before .before .before .before .before .pre .3 .used)
+returns-2 c =
+    let pre = c .before .before .before .before .before .before .before .before .before .before .before .before .before .before .before .pre in
+    let i2 = c .before .before .before .before .before .before .before .i2 in
+    let row-ask = c .before .before .before .before .before .row-ask in
+    let entry-ask = c .before .before .before .before .entry-ask in
+    let e = c .before .before .fill-or-else .ensures in (rw (i2 .given .1, e .0, e .1, row-ask .ensures, entry-ask .ensures), pre .3 .used)
 
 returns-3 : tie.Need-returns-3
 unfolding acted
-returns-3 c = let e = c .before .before .fill .ensures in (rw (c .before .before .before .before .before .before .i3 .given .1, e .0, e .1, c .before .before .before .before .row-ask2 .ensures), c .before .before .before .before .before .before .before .before .before .before .before .before .before .before .pre .3 .used)
+returns-3 c =
+    let pre = c .before .before .before .before .before .before .before .before .before .before .before .before .before .before .pre in
+    let i3 = c .before .before .before .before .before .before .i3 in
+    let row-ask2 = c .before .before .before .before .row-ask2 in
+    let e = c .before .before .fill .ensures in (rw (i3 .given .1, e .0, e .1, row-ask2 .ensures), pre .3 .used)
 
 returns-4 : tie.Need-returns-4
 unfolding acted
-returns-4 c = let e = c .before .before .fill-or-else2 .ensures in (rw (c .before .before .before .before .before .before .i4 .given .1, e .0, e .1, c .before .before .before .before .row-ask3 .ensures), c .before .before .before .before .before .before .before .before .before .before .before .before .before .before .pre .3 .used)
+returns-4 c =
+    let pre = c .before .before .before .before .before .before .before .before .before .before .before .before .before .before .pre in
+    let i4 = c .before .before .before .before .before .before .i4 in
+    let row-ask3 = c .before .before .before .before .row-ask3 in
+    let e = c .before .before .fill-or-else2 .ensures in (rw (i4 .given .1, e .0, e .1, row-ask3 .ensures), pre .3 .used)
 
 returns-5 : tie.Need-returns-5
 unfolding acted
 returns-5 c =
+    let i5 = c .before .before .before .before .before .i5 in
     let a = c .before .before .before .before .before .before .before .before .before .before .before .before .before .args in
     let e = c .before .before .stage-lanes .ensures in
     let l : Lanes = record { live = a .mask .live; state = a .state; log = now (a .log); index = now (a .index); out = now (a .out) } in
-    (rw (c .before .before .before .before .before .i5 .given .1) (ap (λ (g : Logged). withLog g l) (e .0)), e .1)
+    (rw (i5 .given .1) (ap (λ (g : Logged). withLog g l) (e .0)), e .1)
 
 returns-6 : tie.Need-returns-6
 unfolding acted
 returns-6 c =
+    let i6 = c .before .before .before .before .before .before .i6 in
+    let retain = c .before .before .before .before .retain in
     let a = c .before .before .before .before .before .before .before .before .before .before .before .before .before .before .args in
     let e = c .before .before .stage-lanes2 .ensures in
     let l : Lanes = record { live = a .mask .live; state = a .state; log = now (a .log); index = now (a .index); out = now (a .out) } in
-    (rw (c .before .before .before .before .before .before .i6 .given .1, ← c .before .before .before .before .retain .ensures) (ap (λ (g : Logged). withLog g l) (e .0)), e .1)
+    (rw (i6 .given .1, ← retain .ensures) (ap (λ (g : Logged). withLog g l) (e .0)), e .1)
 
 returns-7 : tie.Need-returns-7
 unfolding acted
 returns-7 c =
+    let i7 = c .before .before .before .before .before .i7 in
     let a = c .before .before .before .before .before .before .before .before .before .before .before .before .before .args in
     let e = c .before .before .stage-lanes3 .ensures in
     let l : Lanes = record { live = a .mask .live; state = a .state; log = now (a .log); index = now (a .index); out = now (a .out) } in
-    (rw (c .before .before .before .before .before .i7 .given .1) (ap (λ (g : Logged). withLog g l) (e .0)), e .1)
+    (rw (i7 .given .1) (ap (λ (g : Logged). withLog g l) (e .0)), e .1)
 
 returns-8 : tie.Need-returns-8
 unfolding acted
-returns-8 c = let e = c .before .before .fill2 .ensures in (rw (c .before .before .before .before .before .i8 .given .1, e .0, e .1), c .before .before .before .before .before .before .before .before .before .before .before .before .before .pre .3 .used)
+returns-8 c =
+    let pre = c .before .before .before .before .before .before .before .before .before .before .before .before .before .pre in
+    let i8 = c .before .before .before .before .before .i8 in
+    let e = c .before .before .fill2 .ensures in (rw (i8 .given .1, e .0, e .1), pre .3 .used)
 
 returns-9 : tie.Need-returns-9
 unfolding acted
-returns-9 c = let e = c .before .before .fill-or-else3 .ensures in (rw (c .before .before .before .before .before .i9 .given .1, e .0, e .1), c .before .before .before .before .before .before .before .before .before .before .before .before .before .pre .3 .used)
+returns-9 c =
+    let pre = c .before .before .before .before .before .before .before .before .before .before .before .before .before .pre in
+    let i9 = c .before .before .before .before .before .i9 in
+    let e = c .before .before .fill-or-else3 .ensures in (rw (i9 .given .1, e .0, e .1), pre .3 .used)
 
 returns-10 : tie.Need-returns-10
 unfolding acted
-returns-10 c = (rw (c .before .before .i10 .given .1, c .retain2 .ensures), c .before .before .before .before .before .before .before .before .before .before .pre .3 .used)
+returns-10 c =
+    let pre = c .before .before .before .before .before .before .before .before .before .before .pre in
+    (rw (c .before .before .i10 .given .1, c .retain2 .ensures), pre .3 .used)
 
 returns-11 : tie.Need-returns-11
 unfolding acted
-returns-11 c = (rw (c .before .before .i11 .given .1, c .retain3 .ensures), c .before .before .before .before .before .before .before .before .before .before .pre .3 .used)
+returns-11 c =
+    let pre = c .before .before .before .before .before .before .before .before .before .before .pre in
+    (rw (c .before .before .i11 .given .1, c .retain3 .ensures), pre .3 .used)
 
 returns-12 : tie.Need-returns-12
 unfolding acted
-returns-12 c = (rw (c .before .before .i12 .given .1, c .retain4 .ensures), c .before .before .before .before .before .before .before .before .before .before .pre .3 .used)
+returns-12 c =
+    let pre = c .before .before .before .before .before .before .before .before .before .before .pre in
+    (rw (c .before .before .i12 .given .1, c .retain4 .ensures), pre .3 .used)
 
 returns-13 : tie.Need-returns-13
 unfolding acted
-returns-13 c = (rw (c .before .before .before .before .before .before .before .i13 .given .1, c .before .before .fill3 .ensures .1, c .before .before .before .before .read-counter .ensures, c .before .before .before .before .before .new .ensures), c .before .before .before .before .before .before .before .before .before .before .before .before .before .before .before .pre .3 .used)
+returns-13 c =
+    let pre = c .before .before .before .before .before .before .before .before .before .before .before .before .before .before .before .pre in
+    let i13 = c .before .before .before .before .before .before .before .i13 in
+    let new = c .before .before .before .before .before .new in
+    let read-counter = c .before .before .before .before .read-counter in
+    (rw (i13 .given .1, c .before .before .fill3 .ensures .1, read-counter .ensures, new .ensures), pre .3 .used)
 
 pub act-spec : {M : Type 1} → statement M
 act-spec =

@@ -15,7 +15,9 @@ same-length : tie.Need-same-length
 same-length c = search needs
 
 returns : tie.Need-returns
-returns c = let e = c .before .before .insert .ensures in (rw (c .before .before .before .before .before .dst .given .1) (e .0), rw (c .before .before .before .before .before .dst .given .1) (e .1))
+returns c =
+    let dst = c .before .before .before .before .before .dst in
+    let e = c .before .before .insert .ensures in (rw (dst .given .1) (e .0), rw (dst .given .1) (e .1))
 
 returns-2 : tie.Need-returns-2
 returns-2 c = (rw (c .enum-told .given .1), rw (c .enum-told .given .1))

@@ -17,11 +17,13 @@ bind-dst-requires c κs =
 returns : tie.Need-returns
 unfolding ranInstr
 returns c =
+    let act = c .before .before .before .before .before .before .before .before .before .before .before .before .before .act in
+    let dst = c .before .before .before .before .before .dst in
     let a = c .before .before .before .before .before .before .before .before .before .before .before .before .before .before .before .before .before .before .before .before .before .before .before .before .before .args in
-    let e = c .before .before .before .before .before .before .before .before .before .before .before .before .before .act .ensures in
+    let e = act .ensures in
     let b = c .before .before .bind-dst .ensures in
     let r : Running = record { batch = a .batch; bindings = now (a .bindings); log = now (a .log); index = now (a .index) } in
-    (rw (b .0, b .1, c .before .before .before .before .before .dst .ensures) (ap (λ (l : Lanes). finished (bindsOf (a .i)) l r) (e .0)), e .1)
+    (rw (b .0, b .1, dst .ensures) (ap (λ (l : Lanes). finished (bindsOf (a .i)) l r) (e .0)), e .1)
 
 pub run-instr-spec : {M : Type 1} → statement M
 run-instr-spec =

@@ -48,10 +48,11 @@ first-of-requires c κs =
 
 loop-holds : tie.Need-loop-holds Inv-loop μ-loop
 loop-holds c =
+    let first-of = c .before .before .first-of in
     let a = c .before .before .before .before .before .before .before .before .args in
     let q = c .before .before .before .before .before .before .before .before .pre in
     let w = now (a .words) in
-    let f : c .before .before .first-of .result ≡ ruleFirst w (a .r) = c .before .before .first-of .ensures .0 ∙ ap (λ (b : ℕ). firstOf w (b + a .r)) (q .2) in
+    let f : first-of .result ≡ ruleFirst w (a .r) = first-of .ensures .0 ∙ ap (λ (b : ℕ). firstOf w (b + a .r)) (q .2) in
     (c .size .ensures .0 ∙ c .before .word .ensures ∙ ap (λ (x : ℕ). getD w (x + 1) 0) f, search needs, ap (λ (x : ℕ). x + 2) f, refl, refl, refl, q .4 .used, refl)
 
 run-next-requires : tie.Need-run-next-requires Inv-loop μ-loop
@@ -64,18 +65,20 @@ run-next-requires c κs =
 
 next-requires : tie.Need-next-requires Inv-loop μ-loop
 next-requires c κs =
+    let loop-test = c .before .before .before .before .before .before .before .before .before .before .loop-test in
     let a = c .before .before .before .before .before .before .before .before .before .before .before .before .before .before .before .before .before .before .before .before .args in
     let q = c .before .before .before .before .before .before .before .before .before .before .before .before .before .before .before .before .before .before .before .before .pre in
     let l = c .before .before .before .before .before .before .before .before .before .before .before .loop in
-    let x = here (now (a .words)) (a .r) (l .j) _ (l .p) (q .0) (q .3) (l .inv .0) (c .before .before .before .before .before .before .before .before .before .before .loop-test .taken) (l .inv .2) in
+    let x = here (now (a .words)) (a .r) (l .j) _ (l .p) (q .0) (q .3) (l .inv .0) (loop-test .taken) (l .inv .2) in
     small-here x
 
 loop-again : tie.Need-loop-again Inv-loop μ-loop
 loop-again c =
+    let loop-test = c .before .before .before .before .before .before .before .before .before .before .before .loop-test in
     let a = c .before .before .before .before .before .before .before .before .before .before .before .before .before .before .before .before .before .before .before .before .before .args in
     let q = c .before .before .before .before .before .before .before .before .before .before .before .before .before .before .before .before .before .before .before .before .before .pre in
     let l = c .before .before .before .before .before .before .before .before .before .before .before .before .loop in
-    let x = here (now (a .words)) (a .r) (l .j) _ (l .p) (q .0) (q .3) (l .inv .0) (c .before .before .before .before .before .before .before .before .before .before .before .loop-test .taken) (l .inv .2) in
+    let x = here (now (a .words)) (a .r) (l .j) _ (l .p) (q .0) (q .3) (l .inv .0) (loop-test .taken) (l .inv .2) in
     let r = c .before .before .before .before .before .before .before .run-next in
     let k = r .kept .1 .1 .1 .1 in (
       l .inv .0,
@@ -91,10 +94,11 @@ loop-again c =
 returns : tie.Need-returns Inv-loop μ-loop
 unfolding ranInstrs
 returns c =
+    let pre = c .before .before .before .before .before .before .before .before .before .before .pre in
     let a = c .before .before .before .before .before .before .before .before .before .before .args in
     let l = c .before .loop in
     let e : l .j ≡ many (now (a .words)) (a .r) = omega (arith, l .inv .0, l .inv .1, c .loop-test .left) in
-    (rw (c .before .before .before .before .before .before .before .before .before .before .pre .2, ← e) (l .inv .7), l .inv .6)
+    (rw (pre .2, ← e) (l .inv .7), l .inv .6)
 
 pub run-instrs-spec : {M : Type 1} → statement M
 run-instrs-spec =

@@ -13,17 +13,23 @@ run-instr-requires c κs = let p = c .before .before .before .before .before .be
 returns : tie.Need-returns
 unfolding ranNext
 returns c =
+    let going = c .before .before .before .before .before .before .before .before .before .before .before .before .before .going in
+    let is-empty = c .before .before .before .before .before .before .before .before .before .before .before .before .is-empty in
+    let if1 = c .before .before .before .before .before .before .before .before .before .before .before .if1 in
+    let instr-at = c .before .before .before .before .before .before .before .before .before .before .instr-at in
+    let run-instr = c .before .before .before .before .before .before .run-instr in
     let a = c .before .before .before .before .before .before .before .before .before .before .before .before .before .before .before .before .before .before .before .before .before .args in
-    let e = c .before .before .before .before .before .before .run-instr .ensures in
-    let t : isGoing (a .batch .state) && anyLive (a .batch .mask .live) ≡ true = rw (← c .before .before .before .before .before .before .before .before .before .before .before .before .before .going .ensures, ← Bool·not-not (anyLive (a .batch .mask .live)), ← c .before .before .before .before .before .before .before .before .before .before .before .before .is-empty .ensures) (c .before .before .before .before .before .before .before .before .before .before .before .if1 .taken) in
-    (rw (t, ← c .before .before .before .before .before .before .before .before .before .before .instr-at .ensures) (e .0), e .1)
+    let e = run-instr .ensures in
+    let t : isGoing (a .batch .state) && anyLive (a .batch .mask .live) ≡ true = rw (← going .ensures, ← Bool·not-not (anyLive (a .batch .mask .live)), ← is-empty .ensures) (if1 .taken) in
+    (rw (t, ← instr-at .ensures) (e .0), e .1)
 
 returns-2 : tie.Need-returns-2
 unfolding ranNext
 returns-2 c =
+    let pre = c .before .before .before .before .before .before .before .before .before .before .pre in
     let a = c .before .before .before .before .before .before .before .before .before .before .args in
     let t : isGoing (a .batch .state) && anyLive (a .batch .mask .live) ≡ false = rw (← c .before .before .going .ensures, ← Bool·not-not (anyLive (a .batch .mask .live)), ← c .before .is-empty .ensures) (c .if1 .left) in
-    (rw t, c .before .before .before .before .before .before .before .before .before .before .pre .4 .used)
+    (rw t, pre .4 .used)
 
 pub run-next-spec : {M : Type 1} → statement M
 run-next-spec =

@@ -23,7 +23,10 @@ next-is : (c : tie.After-counts) → length (c .before .before .before .before .
 next-is c = search needs
 
 used-is : (c : tie.After-counts) → length (take (c .before .before .before .before .before .before .before .before .args .state .used) (now (c .before .before .before .before .before .before .before .before .args .log))) ≡ c .before .before .before .before .before .before .before .before .args .state .used
-used-is c = length-take-le (c .before .before .before .before .before .before .before .before .args .state .used) (now (c .before .before .before .before .before .before .before .before .args .log)) (c .before .before .before .before .before .before .before .before .pre .1)
+used-is c =
+    let a = c .before .before .before .before .before .before .before .before .args in
+    let pre = c .before .before .before .before .before .before .before .before .pre in
+    length-take-le (a .state .used) (now (a .log)) (pre .1)
 
 -- the numbers are small, and the sum is the whole
 small-part : (c : tie.After-shape-of) → Small (now (c .before .before .before .before .before .before .before .before .before .args .words)) (c .before .before .before .before .before .before .before .before .before .args .done .counts) (now (c .before .before .before .before .before .before .before .before .before .args .lengths)) (length (take (c .before .before .before .before .before .before .before .before .before .args .state .used) (now (c .before .before .before .before .before .before .before .before .before .args .log)))) (c .shape-of .result)
@@ -39,14 +42,20 @@ small-used c =
 
 total-is : (c : tie.After-length-of) → 1 + 3 * bodyCount (c .before .before .before .before .shape-of .result) + c .length-of .result ≡ wholeLength (leftBy (now (c .before .before .before .before .before .before .before .before .before .before .before .before .before .args .words)) (now (c .before .before .before .before .before .before .before .before .before .before .before .before .before .args .tables)) (now (c .before .before .before .before .before .before .before .before .before .before .before .before .before .args .log)) (now (c .before .before .before .before .before .before .before .before .before .before .before .before .before .args .lengths)) (c .before .before .before .before .before .before .before .before .before .before .before .before .before .args .scratch) (now (c .before .before .before .before .before .before .before .before .before .before .before .before .before .args .answer)) (c .before .before .before .before .before .before .before .before .before .before .before .before .before .args .done) (c .before .before .before .before .before .before .before .before .before .before .before .before .before .args .state))
 total-is c =
-    let a = c .before .before .before .before .before .before .before .before .before .before .before .before .before .args in
-    let z = c .before .before .before .before .shape-of .result in
+    let pre = c .before .before .before .before .before .before .before .before .before .before .before .before .before .pre in
+    let shape-of = c .before .before .before .before .shape-of in
+    let before = c .before .before .before .before .before in
+    let a = before .before .before .before .before .before .before .before .before .args in
+    let z = shape-of .result in
     rw (c .length-of .ensures)
-    (subst (λ (u : ℕ). 1 + 3 * bodyCount z + sum (λ i. entryAt (now (a .words)) (a .done .counts) (now (a .lengths)) u z i .length) (bodyCount z) ≡ wholeLength (leftBy (now (a .words)) (now (a .tables)) (now (a .log)) (now (a .lengths)) (a .scratch) (now (a .answer)) (a .done) (a .state))) (used-is (c .before .before .before .before .before))
-    (whole-sum (leftBy (now (a .words)) (now (a .tables)) (now (a .log)) (now (a .lengths)) (a .scratch) (now (a .answer)) (a .done) (a .state)) (a .scratch) (now (a .answer)) (c .before .before .before .before .before .before .before .before .before .before .before .before .before .pre .2) z (c .before .before .before .before .shape-of .ensures)))
+    (subst (λ (u : ℕ). 1 + 3 * bodyCount z + sum (λ i. entryAt (now (a .words)) (a .done .counts) (now (a .lengths)) u z i .length) (bodyCount z) ≡ wholeLength (leftBy (now (a .words)) (now (a .tables)) (now (a .log)) (now (a .lengths)) (a .scratch) (now (a .answer)) (a .done) (a .state))) (used-is (before))
+    (whole-sum (leftBy (now (a .words)) (now (a .tables)) (now (a .log)) (now (a .lengths)) (a .scratch) (now (a .answer)) (a .done) (a .state)) (a .scratch) (now (a .answer)) (pre .2) z (shape-of .ensures)))
 
 shape-of-requires : tie.Need-shape-of-requires
-shape-of-requires c κs = few-entries (now (c .before .before .before .before .before .before .before .before .args .words)) (c .before .before .before .before .before .before .before .before .pre .0)
+shape-of-requires c κs =
+    let a = c .before .before .before .before .before .before .before .before .args in
+    let pre = c .before .before .before .before .before .before .before .before .pre in
+    few-entries (now (a .words)) (pre .0)
 
 add-n : tie.Need-add-n
 add-n c = omega (arith, small-used (c .before) .tables, small-used (c .before) .counters, small-used (c .before) .steps)
@@ -71,9 +80,11 @@ length-of-requires c κs = (small-used (c .before .before .before), omega arith)
 
 add-total-2 : tie.Need-add-total-2
 add-total-2 c =
-    let a = c .before .before .before .before .before .before .before .before .before .before .before .before .before .args in
-    let z = c .before .before .before .before .shape-of .result in
-    omega (arith, small-used (c .before .before .before .before) .tables, small-used (c .before .before .before .before) .counters, small-used (c .before .before .before .before) .steps, c .length-of .ensures, small-sum (now (a .words)) (a .done .counts) (now (a .lengths)) (a .state .used) z (small-used (c .before .before .before .before)) (bodyCount z) (omega arith))
+    let shape-of = c .before .before .before .before .shape-of in
+    let before = c .before .before .before .before in
+    let a = before .before .before .before .before .before .before .before .before .before .args in
+    let z = shape-of .result in
+    omega (arith, small-used (before) .tables, small-used (before) .counters, small-used (before) .steps, c .length-of .ensures, small-sum (now (a .words)) (a .done .counts) (now (a .lengths)) (a .state .used) z (small-used (before)) (bodyCount z) (omega arith))
 
 returns : tie.Need-returns
 unfolding assembled assembledLength
@@ -83,19 +94,31 @@ returns c =
     rw (lt-leb (wholeLength (leftBy (now (a .words)) (now (a .tables)) (now (a .log)) (now (a .lengths)) (a .scratch) (now (a .answer)) (a .done) (a .state))) (length (now (a .answer))) h) (refl, refl)
 
 slice-aggregate-fill : tie.Need-slice-aggregate-fill
-slice-aggregate-fill c = sym (counts-are (c .before .before .before .before .before .before .before))
+slice-aggregate-fill c =
+    let before = c .before .before .before .before .before .before .before in
+    sym (counts-are (before))
 
 slice-aggregate-fill-2 : tie.Need-slice-aggregate-fill-2
-slice-aggregate-fill-2 c = sym (next-is (c .before .before .before .before .before .before .before .before))
+slice-aggregate-fill-2 c =
+    let before = c .before .before .before .before .before .before .before .before in
+    sym (next-is (before))
 
 slice-aggregate-fill-3 : tie.Need-slice-aggregate-fill-3
-slice-aggregate-fill-3 c = sym (used-is (c .before .before .before .before .before .before .before .before .before))
+slice-aggregate-fill-3 c =
+    let before = c .before .before .before .before .before .before .before .before .before in
+    sym (used-is (before))
 
 fill-requires : tie.Need-fill-requires
 fill-requires c κs =
-    let a = c .before .before .before .before .before .before .before .before .before .before .before .before .before .before .before .before .before .before .args in
-    let h : wholeLength (leftBy (now (a .words)) (now (a .tables)) (now (a .log)) (now (a .lengths)) (a .scratch) (now (a .answer)) (a .done) (a .state)) ≤ length (now (a .answer)) = rw (← total-is (c .before .before .before .before .before)) (c .before .before .before .before .if1 .left) in
-    (c .before .before .before .before .before .before .before .before .before .shape-of .ensures, small-part (c .before .before .before .before .before .before .before .before .before), omega (arith, next-is (c .before .before .before .before .before .before .before .before .before .before), small-part (c .before .before .before .before .before .before .before .before .before) .counters), c .before .before .before .before .before .before .before .before .before .before .before .before .before .before .before .before .before .before .pre .2, h)
+    let pre = c .before .before .before .before .before .before .before .before .before .before .before .before .before .before .before .before .before .before .pre in
+    let shape-of = c .before .before .before .before .before .before .before .before .before .shape-of in
+    let before = c .before .before .before .before .before .before .before .before .before .before in
+    let before2 = c .before .before .before .before .before .before .before .before .before in
+    let before3 = c .before .before .before .before .before in
+    let if1 = c .before .before .before .before .if1 in
+    let a = before .before .before .before .before .before .before .before .before .args in
+    let h : wholeLength (leftBy (now (a .words)) (now (a .tables)) (now (a .log)) (now (a .lengths)) (a .scratch) (now (a .answer)) (a .done) (a .state)) ≤ length (now (a .answer)) = rw (← total-is (before3)) (if1 .left) in
+    (shape-of .ensures, small-part (before2), omega (arith, next-is (before), small-part (before2) .counters), pre .2, h)
 
 same-length : tie.Need-same-length
 same-length c = c .before .before .fill .kept .1 .1 .1 .1 .1 .1 .1 .1 .1 .0
@@ -103,9 +126,11 @@ same-length c = c .before .before .fill .kept .1 .1 .1 .1 .1 .1 .1 .1 .1 .0
 returns-2 : tie.Need-returns-2
 unfolding assembled assembledLength
 returns-2 c =
-    let a = c .before .before .before .before .before .before .before .before .before .before .before .before .before .before .before .before .before .before .before .before .before .args in
-    let h : wholeLength (leftBy (now (a .words)) (now (a .tables)) (now (a .log)) (now (a .lengths)) (a .scratch) (now (a .answer)) (a .done) (a .state)) ≤ length (now (a .answer)) = rw (← total-is (c .before .before .before .before .before .before .before .before)) (c .before .before .before .before .before .before .before .if1 .left) in
-    rw (le-leb (wholeLength (leftBy (now (a .words)) (now (a .tables)) (now (a .log)) (now (a .lengths)) (a .scratch) (now (a .answer)) (a .done) (a .state))) (length (now (a .answer))) h) (c .before .before .fill .ensures, ap Words (total-is (c .before .before .before .before .before .before .before .before)))
+    let before = c .before .before .before .before .before .before .before .before in
+    let if1 = c .before .before .before .before .before .before .before .if1 in
+    let a = before .before .before .before .before .before .before .before .before .before .before .before .before .before .args in
+    let h : wholeLength (leftBy (now (a .words)) (now (a .tables)) (now (a .log)) (now (a .lengths)) (a .scratch) (now (a .answer)) (a .done) (a .state)) ≤ length (now (a .answer)) = rw (← total-is (before)) (if1 .left) in
+    rw (le-leb (wholeLength (leftBy (now (a .words)) (now (a .tables)) (now (a .log)) (now (a .lengths)) (a .scratch) (now (a .answer)) (a .done) (a .state))) (length (now (a .answer))) h) (c .before .before .fill .ensures, ap Words (total-is (before)))
 
 pub assemble-spec : {M : Type 1} → statement M
 assemble-spec =

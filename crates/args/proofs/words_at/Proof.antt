@@ -21,10 +21,11 @@ loop-holds c = (search needs, search needs, filled-none _ _)
 
 loop-again : tie.Need-loop-again Inv-loop μ-loop
 loop-again c =
+    let pre = c .before .before .before .before .pre in
     let l = c .before .before .loop in
     let a = c .before .before .before .before .args in
     let f : ℕ → ℕ = λ (k : ℕ). getD (now (a .words)) (a .at + k) 0 in
-    (search needs, search needs, filled-turn f (l .i) (replicate 16 0) (l .vals) _ 0 (l .inv .2) (c .word .ensures) (omega (arith, c .before .before .before .before .pre)))
+    (search needs, search needs, filled-turn f (l .i) (replicate 16 0) (l .vals) _ 0 (l .inv .2) (c .word .ensures) (omega (arith, pre)))
 
 returns : tie.Need-returns Inv-loop μ-loop
 unfolding wordsAt

@@ -17,7 +17,9 @@ returns : tie.Need-returns
 returns c = search needs
 
 returns-2 : tie.Need-returns-2
-returns-2 c = sym (List·getD-eq-default (now (c .before .before .args .words)) 0 {n = c .before .before .args .p + 1} (omega arith))
+returns-2 c =
+    let a = c .before .before .args in
+    sym (List·getD-eq-default (now (a .words)) 0 {n = a .p + 1} (omega arith))
 
 pub behind-spec : {M : Type 1} → statement M
 behind-spec = tie.close (tie.spec add-word word-requires returns returns-2)

@@ -21,10 +21,11 @@ loop-holds c = (search needs, search needs, filled-none _ _)
 
 loop-again : tie.Need-loop-again Inv-loop μ-loop
 loop-again c =
+    let pre = c .before .before .before .before .before .pre in
     let l = c .before .before .loop in
     let a = c .before .before .before .before .before .args in
     let f : ℕ → ℕ = λ (k : ℕ). valueAt (now (a .words)) (now (a .bindings)) (a .lane .0) (a .at + 2 * k) in
-    (search needs, search needs, filled-turn f (l .i) (replicate 16 0) (l .vals) _ 0 (l .inv .2) (c .value .ensures) (omega (arith, c .before .before .before .before .before .pre)))
+    (search needs, search needs, filled-turn f (l .i) (replicate 16 0) (l .vals) _ 0 (l .inv .2) (c .value .ensures) (omega (arith, pre)))
 
 returns : tie.Need-returns Inv-loop μ-loop
 unfolding fetched

@@ -27,8 +27,10 @@ same-length c = search needs
 
 returns : tie.Need-returns
 returns c =
+    let pre = c .before .before .before .before .before .before .pre in
+    let load = c .before .before .load in
     let a = c .before .before .before .before .before .before .args in
-    (sym (length-words (now (a .book))), words-loaded (now (a .book)) (now (a .words)) (c .before .before .load .last .1 .0) (c .before .before .before .before .before .before .pre) (c .before .before .load .ensures))
+    (sym (length-words (now (a .book))), words-loaded (now (a .book)) (now (a .words)) (load .last .1 .0) (pre) (load .ensures))
 
 pub load-words-spec : {M : Type 1} → statement M
 load-words-spec =

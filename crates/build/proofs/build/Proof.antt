@@ -27,11 +27,12 @@ loop-again c =
 returns : tie.Need-returns Inv-loop μ-loop
 unfolding built
 returns c =
+    let pre = c .before .before .before .before .pre in
     let a = c .before .before .before .before .args in
     let l = c .before .loop in
     let e : l .k ≡ a .vals .count = omega arith in
     let is : l .b ≡ built (now (a .words)) (now (a .bindings)) (a .lane .0) (a .key) (a .vals .at) (a .vals .count) (a .counters) = rw e at (l .inv .1) in
-    (is, rw is (built-fits (now (a .bindings)) (a .lane .0) (now (a .words)) (a .key) (a .vals .at) (a .vals .count) (a .counters) (c .before .before .before .before .pre .1)))
+    (is, rw is (built-fits (now (a .bindings)) (a .lane .0) (now (a .words)) (a .key) (a .vals .at) (a .vals .count) (a .counters) (pre .1)))
 
 pub build-spec : {M : Type 1} → statement M
 build-spec =

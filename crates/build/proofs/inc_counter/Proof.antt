@@ -22,10 +22,12 @@ enum-told c = search needs
 returns : tie.Need-returns
 unfolding handed
 returns c =
-    let h = c .before .before .before .before .inc .ensures in
+    let a = c .before .before .before .before .before .before .args in
+    let inc = c .before .before .before .before .inc in
+    let h = inc .ensures in
     let x = c .before .before .drawn .given in
     let d = sym (ap drawnOf (x .1)) ∙ h .drawn in
-    c .append .ensures ∙ rw (← d) (ap (λ (l : List ℕ). appended (x .0 .0) (record { next = l }) (c .before .before .before .before .before .before .args .b)) (rw (← d) at (h .counters)))
+    c .append .ensures ∙ rw (← d) (ap (λ (l : List ℕ). appended (x .0 .0) (record { next = l }) (a .b)) (rw (← d) at (h .counters)))
 
 returns-2 : tie.Need-returns-2
 unfolding handed

@@ -21,12 +21,16 @@ old-is c =
 
 all-is : (c : tie.After-insert-rows) → _≡_ {A = Rows} (record { words = c .insert-rows .last .1 .1 .1 .1 .0; part = c .insert-rows .result }) (inserted (now (c .before .before .before .before .before .before .before .before .before .before .before .before .before .before .args .words)) (now (c .before .before .before .before .before .before .before .before .before .before .before .before .before .before .args .log)) (c .before .before .before .before .before .before .before .before .before .before .before .before .before .before .args .t .0) (infoOf (now (c .before .before .before .before .before .before .before .before .before .before .before .before .before .before .args .words)) (c .before .before .before .before .before .before .before .before .before .before .before .before .before .before .args .t .0)) (kept (now (c .before .before .before .before .before .before .before .before .before .before .before .before .before .before .args .words)) (now (c .before .before .before .before .before .before .before .before .before .before .before .before .before .before .args .log)) (c .before .before .before .before .before .before .before .before .before .before .before .before .before .before .args .t .0) (infoOf (now (c .before .before .before .before .before .before .before .before .before .before .before .before .before .before .args .words)) (c .before .before .before .before .before .before .before .before .before .before .before .before .before .before .args .t .0)) (infoOf (now (c .before .before .before .before .before .before .before .before .before .before .before .before .before .before .args .words)) (c .before .before .before .before .before .before .before .before .before .before .before .before .before .before .args .t .0) .rows) (begun (record { words = now (c .before .before .before .before .before .before .before .before .before .before .before .before .before .before .args .rows); result = c .before .before .before .before .before .before .before .before .before .before .before .before .before .before .args .t6 }))))
 all-is c =
-    let a = c .before .before .before .before .before .before .before .before .before .before .before .before .before .before .args in
-    let o = c .before .before .before .before .before .before .keep in
-    c .insert-rows .ensures ∙ ap (λ (i : TableInfo). inserted (now (a .words)) (now (a .log)) (a .t .0) i (record { words = o .last .1 .1 .1 .1 .1 .0; part = o .result })) (c .before .before .before .before .before .before .before .before .before .info-of .ensures) ∙ ap (inserted (now (a .words)) (now (a .log)) (a .t .0) (infoOf (now (a .words)) (a .t .0))) (old-is (c .before .before .before .before .before .before))
+    let info-of = c .before .before .before .before .before .before .before .before .before .info-of in
+    let before = c .before .before .before .before .before .before in
+    let a = before .before .before .before .before .before .before .before .before .args in
+    let o = before .keep in
+    c .insert-rows .ensures ∙ ap (λ (i : TableInfo). inserted (now (a .words)) (now (a .log)) (a .t .0) i (record { words = o .last .1 .1 .1 .1 .1 .0; part = o .result })) (info-of .ensures) ∙ ap (inserted (now (a .words)) (now (a .log)) (a .t .0) (infoOf (now (a .words)) (a .t .0))) (old-is (before))
 
 cast-done : tie.Need-cast-done
-cast-done c = omega (arith, c .before .before .before .before .before .pre .4, c .before .before .before .before .before .pre .5)
+cast-done c =
+    let pre = c .before .before .before .before .before .pre in
+    omega (arith, pre .4, pre .5)
 
 keep-requires : tie.Need-keep-requires
 keep-requires c κs =
@@ -37,14 +41,17 @@ keep-requires c κs =
 
 insert-rows-requires : tie.Need-insert-rows-requires
 insert-rows-requires c κs =
-    let a = c .before .before .before .before .before .before .before .before .before .before .before .before .before .args in
-    let pre = c .before .before .before .before .before .before .before .before .before .before .before .before .before .pre in
+    let info-of = c .before .before .before .before .before .before .before .before .info-of in
+    let keep = c .before .before .before .before .before .keep in
+    let before = c .before .before .before .before .before in
+    let a = before .before .before .before .before .before .before .before .before .args in
+    let pre = before .before .before .before .before .before .before .before .before .pre in
     let k = old-keeps (now (a .words)) (now (a .log)) (a .t .0) (record { words = now (a .rows); result = a .t6 }) (pre .1) (pre .4) in
-    let e = c .before .before .before .before .before .before .before .before .info-of .ensures in (
+    let e = info-of .ensures in (
       e,
       subst Sound (sym e) (ready-sound (pre .1)),
-      subst (λ (i : TableInfo). Stand (i .width) (record { words = c .before .before .before .before .before .keep .last .1 .1 .1 .1 .1 .0; part = c .before .before .before .before .before .keep .result })) (sym e) (subst (Stand ((infoOf (now (a .words)) (a .t .0)) .width)) (sym (old-is (c .before .before .before .before .before))) (k .0)),
-      omega (arith, ap (λ (s : Rows). length (s .words)) (old-is (c .before .before .before .before .before)), k .1, pre .5),
+      subst (λ (i : TableInfo). Stand (i .width) (record { words = keep .last .1 .1 .1 .1 .1 .0; part = keep .result })) (sym e) (subst (Stand ((infoOf (now (a .words)) (a .t .0)) .width)) (sym (old-is (before))) (k .0)),
+      omega (arith, ap (λ (s : Rows). length (s .words)) (old-is (before)), k .1, pre .5),
     )
 
 cast-done-2 : tie.Need-cast-done-2
@@ -57,8 +64,9 @@ cast-done-2 c =
 returns : tie.Need-returns
 unfolding tableCommitted
 returns c =
+    let keep = c .before .before .before .before .before .before .before .before .before .before .keep in
     let a = c .before .before .before .before .before .before .before .before .before .before .before .before .before .before .before .before .before .before .args in
-    (rw (c .before .size .ensures .0) (ap (ended (a .t .0) (record { words = now (a .rows); result = a .t6 })) (all-is (c .before .before .before .before))), c .before .before .before .before .before .before .before .before .before .before .keep .ensures .1)
+    (rw (c .before .size .ensures .0) (ap (ended (a .t .0) (record { words = now (a .rows); result = a .t6 })) (all-is (c .before .before .before .before))), keep .ensures .1)
 
 pub commit-table-spec : {M : Type 1} → statement M
 commit-table-spec =

@@ -19,14 +19,17 @@ loop-holds : tie.Need-loop-holds Inv-loop μ-loop
 loop-holds c = (search needs, none-counted _ _)
 
 add-c : tie.Need-add-c Inv-loop μ-loop
-add-c c = let l = c .before .before .before .before .loop in omega (arith, count-small (now (c .before .before .before .before .before .before .args .words)) (c .before .before .before .before .before .before .args .g) (l .i) (l .c) (l .inv .1) (omega arith))
+add-c c =
+    let a = c .before .before .before .before .before .before .args in
+    let l = c .before .before .before .before .loop in omega (arith, count-small (now (a .words)) (a .g) (l .i) (l .c) (l .inv .1) (omega arith))
 
 loop-again : tie.Need-loop-again Inv-loop μ-loop
 loop-again c =
+    let a = c .before .before .before .before .before .before .args in
     let l = c .before .before .before .before .loop in
     let e = c .before .group .ensures .0 ∙ ap group (c .before .before .kind-of .ensures) in (
       search needs,
-      ⊎-elim (λ v. v .1 ∙ count-yes (now (c .before .before .before .before .before .before .args .words)) (c .before .before .before .before .before .before .args .g) (l .i) (l .c) (l .inv .1) (sym e ∙ v .0 .taken)) (λ v. v .1 ∙ count-no (now (c .before .before .before .before .before .before .args .words)) (c .before .before .before .before .before .before .args .g) (l .i) (l .c) (l .inv .1) (λ q. v .0 .left (e ∙ q))) (c .if1 .came),
+      ⊎-elim (λ v. v .1 ∙ count-yes (now (a .words)) (a .g) (l .i) (l .c) (l .inv .1) (sym e ∙ v .0 .taken)) (λ v. v .1 ∙ count-no (now (a .words)) (a .g) (l .i) (l .c) (l .inv .1) (λ q. v .0 .left (e ∙ q))) (c .if1 .came),
     )
 
 returns : tie.Need-returns Inv-loop μ-loop

@@ -23,16 +23,34 @@ unfolding tab
 loop-holds c = search needs
 
 first-of-requires : tie.Need-first-of-requires Inv-loop μ-loop
-first-of-requires c κs = omega (arith, c .before .before .before .size .ensures .0, c .before .before .size2 .ensures .0, c .before .before .before .before .before .pre .1 .tables, c .before .before .before .before .before .pre .1 .counters, few-tables (now (c .before .before .before .before .before .args .words)) (c .before .before .before .before .before .pre .0), few-counters (now (c .before .before .before .before .before .args .words)) (c .before .before .before .before .before .pre .0))
+first-of-requires c κs =
+    let pre = c .before .before .before .before .before .pre in
+    let a = c .before .before .before .before .before .args in
+    omega (arith, c .before .before .before .size .ensures .0, c .before .before .size2 .ensures .0, pre .1 .tables, pre .1 .counters, few-tables (now (a .words)) (pre .0), few-counters (now (a .words)) (pre .0))
 
 array-write-next : tie.Need-array-write-next Inv-loop μ-loop
-array-write-next c = omega (arith, c .before .before .before .before .size2 .ensures .0, c .before .before .before .before .before .before .before .pre .1 .counters, few-counters (now (c .before .before .before .before .before .before .before .args .words)) (c .before .before .before .before .before .before .before .pre .0))
+array-write-next c =
+    let pre = c .before .before .before .before .before .before .before .pre in
+    let a = c .before .before .before .before .before .before .before .args in
+    let size2 = c .before .before .before .before .size2 in
+    omega (arith, size2 .ensures .0, pre .1 .counters, few-counters (now (a .words)) (pre .0))
 
 loop-again : tie.Need-loop-again Inv-loop μ-loop
-loop-again c = (omega arith, length-set (c .before .before .before .loop .next) (c .before .before .before .loop .c) (c .word .result) ∙ c .before .before .before .loop .inv .1, filled-turn (λ k. getD (now (c .before .before .before .before .before .before .before .args .words)) (firstOf (now (c .before .before .before .before .before .before .before .args .words)) (c .before .before .before .before .before .size .result + k)) 0) (c .before .before .before .loop .c) (replicate 16 0) (c .before .before .before .loop .next) (c .word .result) 0 (c .before .before .before .loop .inv .2) (c .word .ensures ∙ ap (λ (p : ℕ). getD (now (c .before .before .before .before .before .before .before .args .words)) p 0) (c .before .first-of .ensures .0)) (omega (arith, c .before .before .before .before .size2 .ensures .0, c .before .before .before .before .before .before .before .pre .1 .counters, few-counters (now (c .before .before .before .before .before .before .before .args .words)) (c .before .before .before .before .before .before .before .pre .0), length-replicate {A = ℕ} 16 0)))
+loop-again c =
+    let a = c .before .before .before .before .before .before .before .args in
+    let pre = c .before .before .before .before .before .before .before .pre in
+    let size = c .before .before .before .before .before .size in
+    let size2 = c .before .before .before .before .size2 in
+    let l = c .before .before .before .loop in
+    (omega arith, length-set (l .next) (l .c) (c .word .result) ∙ l .inv .1, filled-turn (λ k. getD (now (a .words)) (firstOf (now (a .words)) (size .result + k)) 0) (l .c) (replicate 16 0) (l .next) (c .word .result) 0 (l .inv .2) (c .word .ensures ∙ ap (λ (p : ℕ). getD (now (a .words)) p 0) (c .before .first-of .ensures .0)) (omega (arith, size2 .ensures .0, pre .1 .counters, few-counters (now (a .words)) (pre .0), length-replicate {A = ℕ} 16 0)))
 
 returns : tie.Need-returns Inv-loop μ-loop
-returns c = counters-filled (now (c .before .before .before .before .before .args .words)) (c .before .loop .next) (c .before .before .before .size .result) (c .before .before .size2 .result) (let e : c .before .loop .c ≡ c .before .before .size2 .result = omega arith in rw (← e) (c .before .loop .inv .2)) (c .before .before .before .size .ensures .0 ∙ c .before .before .before .before .before .pre .1 .tables) (c .before .before .size2 .ensures .0 ∙ c .before .before .before .before .before .pre .1 .counters)
+returns c =
+    let a = c .before .before .before .before .before .args in
+    let pre = c .before .before .before .before .before .pre in
+    let size = c .before .before .before .size in
+    let size2 = c .before .before .size2 in
+    counters-filled (now (a .words)) (c .before .loop .next) (size .result) (size2 .result) (let e : c .before .loop .c ≡ size2 .result = omega arith in rw (← e) (c .before .loop .inv .2)) (size .ensures .0 ∙ pre .1 .tables) (size2 .ensures .0 ∙ pre .1 .counters)
 
 pub counters-of-spec : {M : Type 1} → statement M
 counters-of-spec =

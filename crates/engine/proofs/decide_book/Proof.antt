@@ -11,15 +11,18 @@ use Rattle.engine.proofs.decide_book.Tie as tie
 
 decide-words-requires : tie.Need-decide-words-requires
 decide-words-requires c κs =
+    let a = c .before .before .before .before .before .before .before .before .before .before .before .before .before .args in
+    let if1 = c .before .before .before .before .before .before .if1 in
     let p = c .before .before .before .before .before .before .before .before .before .before .before .before .before .pre in
-    let b = now (c .before .before .before .before .before .before .before .before .before .before .before .before .before .args .book) in
-    let few : length (wordsOf b) ≤ length (replicate {A = ℕ} 1024 0) = omega (arith, length-words b, c .before .before .before .before .before .before .if1 .taken, length-replicate {A = ℕ} 1024 0) in
+    let b = now (a .book) in
+    let few : length (wordsOf b) ≤ length (replicate {A = ℕ} 1024 0) = omega (arith, length-words b, if1 .taken, length-replicate {A = ℕ} 1024 0) in
     (p .0, few, p .1, p .2, p .3, p .4, p .5, p .6)
 
 decide-words-requires-2 : tie.Need-decide-words-requires-2
 decide-words-requires-2 c κs =
+    let a = c .before .before .before .before .before .before .before .before .before .before .before .before .before .args in
     let p = c .before .before .before .before .before .before .before .before .before .before .before .before .before .pre in
-    let b = now (c .before .before .before .before .before .before .before .before .before .before .before .before .before .args .book) in
+    let b = now (a .book) in
     let most : length (wordsOf b) ≤ length (replicate {A = ℕ} 16384 0) = omega (arith, words-most b (p .0), length-replicate {A = ℕ} 16384 0) in
     (p .0, most, p .1, p .2, p .3, p .4, p .5, p .6)
 

@@ -18,7 +18,9 @@ same-length : tie.Need-same-length
 same-length c = search needs
 
 returns-2 : tie.Need-returns-2
-returns-2 c = rw (c .before .before .before .before .enum-told2 .given .1) (c .before .before .clear .ensures)
+returns-2 c =
+    let enum-told2 = c .before .before .before .before .enum-told2 in
+    rw (enum-told2 .given .1) (c .before .before .clear .ensures)
 
 pub keep-or-clear-spec : {M : Type 1} → statement M
 keep-or-clear-spec =

@@ -9,45 +9,76 @@ use Rattle.engine.proofs.run.Tie as tie
 
 decide-requires : tie.Need-decide-requires
 decide-requires c κs =
+    let clear = c .before .before .before .before .before .before .before .before .before .before .before .before .before .before .before .before .before .before .before .clear in
+    let clear2 = c .before .before .before .before .before .before .before .before .before .before .before .before .before .before .before .clear2 in
+    let clear3 = c .before .before .before .before .before .before .before .before .before .before .before .clear3 in
+    let clear4 = c .before .before .before .before .before .before .before .clear4 in
     let a = c .before .before .before .before .before .before .before .before .before .before .before .before .before .before .before .before .before .before .before .before .before .before .before .before .before .before .before .args in
-    (zeroed _ (length (now (a .bindings))) (c .before .before .before .before .before .before .before .before .before .before .before .before .before .before .before .before .before .before .before .clear .ensures), zeroed _ (length (now (a .index))) (c .before .before .before .before .before .before .before .before .before .before .before .before .before .before .before .clear2 .ensures), zeroed _ (length (now (a .log))) (c .before .before .before .before .before .before .before .before .before .before .before .clear3 .ensures), zeroed _ (length (now (a .answer))) (c .before .before .before .before .before .before .before .clear4 .ensures))
+    (zeroed _ (length (now (a .bindings))) (clear .ensures), zeroed _ (length (now (a .index))) (clear2 .ensures), zeroed _ (length (now (a .log))) (clear3 .ensures), zeroed _ (length (now (a .answer))) (clear4 .ensures))
 
 same-length : tie.Need-same-length
-same-length c = c .before .before .before .before .before .before .before .before .before .before .before .before .before .before .before .before .before .before .clear5 .kept .0 ∙ c .before .before .before .before .before .before .before .before .before .before .before .before .before .before .before .before .before .before .before .before .before .before .before .before .before .before .before .before .before .before .decide .kept .1 .0 ∙ c .before .before .before .before .before .before .before .before .before .before .before .before .before .before .before .before .before .before .before .before .before .before .before .before .before .before .before .before .before .before .before .before .before .before .before .before .before .before .before .before .before .before .before .before .before .before .before .before .before .before .clear .kept .0
+same-length c =
+    let clear = c .before .before .before .before .before .before .before .before .before .before .before .before .before .before .before .before .before .before .before .before .before .before .before .before .before .before .before .before .before .before .before .before .before .before .before .before .before .before .before .before .before .before .before .before .before .before .before .before .before .before .clear in
+    let decide = c .before .before .before .before .before .before .before .before .before .before .before .before .before .before .before .before .before .before .before .before .before .before .before .before .before .before .before .before .before .before .decide in
+    let clear5 = c .before .before .before .before .before .before .before .before .before .before .before .before .before .before .before .before .before .before .clear5 in
+    clear5 .kept .0 ∙ decide .kept .1 .0 ∙ clear .kept .0
 
 same-length-2 : tie.Need-same-length-2
-same-length-2 c = c .before .before .before .before .before .before .before .before .before .before .before .before .before .before .clear6 .kept .0 ∙ c .before .before .before .before .before .before .before .before .before .before .before .before .before .before .before .before .before .before .before .before .before .before .before .before .before .before .before .before .before .before .decide .kept .1 .1 .0 ∙ c .before .before .before .before .before .before .before .before .before .before .before .before .before .before .before .before .before .before .before .before .before .before .before .before .before .before .before .before .before .before .before .before .before .before .before .before .before .before .before .before .before .before .before .before .before .before .clear2 .kept .0
+same-length-2 c =
+    let clear2 = c .before .before .before .before .before .before .before .before .before .before .before .before .before .before .before .before .before .before .before .before .before .before .before .before .before .before .before .before .before .before .before .before .before .before .before .before .before .before .before .before .before .before .before .before .before .before .clear2 in
+    let decide = c .before .before .before .before .before .before .before .before .before .before .before .before .before .before .before .before .before .before .before .before .before .before .before .before .before .before .before .before .before .before .decide in
+    let clear6 = c .before .before .before .before .before .before .before .before .before .before .before .before .before .before .clear6 in
+    clear6 .kept .0 ∙ decide .kept .1 .1 .0 ∙ clear2 .kept .0
 
 same-length-3 : tie.Need-same-length-3
-same-length-3 c = c .before .before .before .before .before .before .before .before .before .before .clear7 .kept .0 ∙ c .before .before .before .before .before .before .before .before .before .before .before .before .before .before .before .before .before .before .before .before .before .before .before .before .before .before .before .before .before .before .decide .kept .1 .1 .1 .0 ∙ c .before .before .before .before .before .before .before .before .before .before .before .before .before .before .before .before .before .before .before .before .before .before .before .before .before .before .before .before .before .before .before .before .before .before .before .before .before .before .before .before .before .before .clear3 .kept .0
+same-length-3 c =
+    let clear3 = c .before .before .before .before .before .before .before .before .before .before .before .before .before .before .before .before .before .before .before .before .before .before .before .before .before .before .before .before .before .before .before .before .before .before .before .before .before .before .before .before .before .before .clear3 in
+    let decide = c .before .before .before .before .before .before .before .before .before .before .before .before .before .before .before .before .before .before .before .before .before .before .before .before .before .before .before .before .before .before .decide in
+    let clear7 = c .before .before .before .before .before .before .before .before .before .before .clear7 in
+    clear7 .kept .0 ∙ decide .kept .1 .1 .1 .0 ∙ clear3 .kept .0
 
 same-length-4 : tie.Need-same-length-4
-same-length-4 c = c .before .before .before .before .before .before .clear8 .kept .0 ∙ c .before .before .before .before .before .before .before .before .before .before .before .before .before .before .before .before .before .before .before .before .before .before .before .before .before .before .before .before .before .before .decide .kept .1 .1 .1 .1 .0
+same-length-4 c =
+    let decide = c .before .before .before .before .before .before .before .before .before .before .before .before .before .before .before .before .before .before .before .before .before .before .before .before .before .before .before .before .before .before .decide in
+    let clear8 = c .before .before .before .before .before .before .clear8 in
+    clear8 .kept .0 ∙ decide .kept .1 .1 .1 .1 .0
 
 same-length-5 : tie.Need-same-length-5
-same-length-5 c = c .before .before .keep-or-clear .kept .1 .0 ∙ c .before .before .before .before .before .before .before .before .before .before .before .before .before .before .before .before .before .before .before .before .before .before .before .before .before .before .before .before .before .before .decide .kept .1 .1 .1 .1 .1 .0 ∙ c .before .before .before .before .before .before .before .before .before .before .before .before .before .before .before .before .before .before .before .before .before .before .before .before .before .before .before .before .before .before .before .before .before .before .before .before .before .before .clear4 .kept .0
+same-length-5 c =
+    let clear4 = c .before .before .before .before .before .before .before .before .before .before .before .before .before .before .before .before .before .before .before .before .before .before .before .before .before .before .before .before .before .before .before .before .before .before .before .before .before .before .clear4 in
+    let decide = c .before .before .before .before .before .before .before .before .before .before .before .before .before .before .before .before .before .before .before .before .before .before .before .before .before .before .before .before .before .before .decide in
+    c .before .before .keep-or-clear .kept .1 .0 ∙ decide .kept .1 .1 .1 .1 .1 .0 ∙ clear4 .kept .0
 
 returns : tie.Need-returns
 returns c =
+    let clear = c .before .before .before .before .before .before .before .before .before .before .before .before .before .before .before .before .before .before .before .before .before .before .before .before .before .before .before .before .before .before .before .before .before .before .before .before .before .before .before .before .before .before .before .before .before .before .before .before .before .before .clear in
+    let clear2 = c .before .before .before .before .before .before .before .before .before .before .before .before .before .before .before .before .before .before .before .before .before .before .before .before .before .before .before .before .before .before .before .before .before .before .before .before .before .before .before .before .before .before .before .before .before .before .clear2 in
+    let clear3 = c .before .before .before .before .before .before .before .before .before .before .before .before .before .before .before .before .before .before .before .before .before .before .before .before .before .before .before .before .before .before .before .before .before .before .before .before .before .before .before .before .before .before .clear3 in
+    let clear4 = c .before .before .before .before .before .before .before .before .before .before .before .before .before .before .before .before .before .before .before .before .before .before .before .before .before .before .before .before .before .before .before .before .before .before .before .before .before .before .clear4 in
+    let clear5 = c .before .before .before .before .before .before .before .before .before .before .before .before .before .before .before .before .before .before .clear5 in
+    let clear6 = c .before .before .before .before .before .before .before .before .before .before .before .before .before .before .clear6 in
+    let clear7 = c .before .before .before .before .before .before .before .before .before .before .clear7 in
+    let clear8 = c .before .before .before .before .before .before .clear8 in
+    let keep-or-clear = c .before .before .keep-or-clear in
     let a = c .before .before .before .before .before .before .before .before .before .before .before .before .before .before .before .before .before .before .before .before .before .before .before .before .before .before .before .before .before .before .before .before .before .before .before .before .before .before .before .before .before .before .before .before .before .before .before .before .before .before .before .before .before .before .before .before .before .before .args in
     let d = c .before .before .before .before .before .before .before .before .before .before .before .before .before .before .before .before .before .before .before .before .before .before .before .before .before .before .before .before .before .before .decide in
-    let bindings = c .before .before .before .before .before .before .before .before .before .before .before .before .before .before .before .before .before .before .before .before .before .before .before .before .before .before .before .before .before .before .before .before .before .before .before .before .before .before .before .before .before .before .before .before .before .before .before .before .before .before .clear .kept .0 in
-    let index = c .before .before .before .before .before .before .before .before .before .before .before .before .before .before .before .before .before .before .before .before .before .before .before .before .before .before .before .before .before .before .before .before .before .before .before .before .before .before .before .before .before .before .before .before .before .before .clear2 .kept .0 in
-    let log = c .before .before .before .before .before .before .before .before .before .before .before .before .before .before .before .before .before .before .before .before .before .before .before .before .before .before .before .before .before .before .before .before .before .before .before .before .before .before .before .before .before .before .clear3 .kept .0 in
-    let answer = c .before .before .before .before .before .before .before .before .before .before .before .before .before .before .before .before .before .before .before .before .before .before .before .before .before .before .before .before .before .before .before .before .before .before .before .before .before .before .clear4 .kept .0 in
+    let bindings = clear .kept .0 in
+    let index = clear2 .kept .0 in
+    let log = clear3 .kept .0 in
+    let answer = clear4 .kept .0 in
     let ws = d .last .1 .1 .1 .1 .1 .0 in
     let lent = lentOf (now (a .bindings)) (now (a .index)) (now (a .log)) (now (a .tables)) (now (a .answer)) in
-    let same = lent-same (c .before .before .before .before .before .before .before .before .before .before .before .before .before .before .before .before .before .before .before .before .before .before .before .before .before .before .before .before .before .before .before .before .before .before .before .before .before .before .before .before .before .before .before .before .before .before .before .before .before .before .clear .last .0) (c .before .before .before .before .before .before .before .before .before .before .before .before .before .before .before .before .before .before .before .before .before .before .before .before .before .before .before .before .before .before .before .before .before .before .before .before .before .before .before .before .before .before .before .before .before .before .clear2 .last .0) (c .before .before .before .before .before .before .before .before .before .before .before .before .before .before .before .before .before .before .before .before .before .before .before .before .before .before .before .before .before .before .before .before .before .before .before .before .before .before .before .before .before .before .clear3 .last .0) (now (a .tables)) (c .before .before .before .before .before .before .before .before .before .before .before .before .before .before .before .before .before .before .before .before .before .before .before .before .before .before .before .before .before .before .before .before .before .before .before .before .before .before .clear4 .last .0) (now (a .bindings)) (now (a .index)) (now (a .log)) (now (a .tables)) (now (a .answer)) bindings index log refl answer in (
-      left-permitted _ lent (now (a .book)) ws (d .result) same (d .ensures) _ (c .before .before .keep-or-clear .ensures),
+    let same = lent-same (clear .last .0) (clear2 .last .0) (clear3 .last .0) (now (a .tables)) (clear4 .last .0) (now (a .bindings)) (now (a .index)) (now (a .log)) (now (a .tables)) (now (a .answer)) bindings index log refl answer in (
+      left-permitted _ lent (now (a .book)) ws (d .result) same (d .ensures) _ (keep-or-clear .ensures),
       (
-        left-answer _ lent (now (a .book)) ws (d .result) same (d .ensures) _ (c .before .before .keep-or-clear .ensures) (d .kept .1 .1 .1 .1 .1 .0 ∙ answer),
+        left-answer _ lent (now (a .book)) ws (d .result) same (d .ensures) _ (keep-or-clear .ensures) (d .kept .1 .1 .1 .1 .1 .0 ∙ answer),
         (
-          zeros-as _ _ _ (c .before .before .before .before .before .before .before .before .before .before .before .before .before .before .before .before .before .before .clear5 .ensures) (d .kept .1 .0 ∙ bindings),
+          zeros-as _ _ _ (clear5 .ensures) (d .kept .1 .0 ∙ bindings),
           (
-            zeros-as _ _ _ (c .before .before .before .before .before .before .before .before .before .before .before .before .before .before .clear6 .ensures) (d .kept .1 .1 .0 ∙ index),
+            zeros-as _ _ _ (clear6 .ensures) (d .kept .1 .1 .0 ∙ index),
             (
-              zeros-as _ _ _ (c .before .before .before .before .before .before .before .before .before .before .clear7 .ensures) (d .kept .1 .1 .1 .0 ∙ log),
-              zeros-as _ _ _ (c .before .before .before .before .before .before .clear8 .ensures) (d .kept .1 .1 .1 .1 .0),
+              zeros-as _ _ _ (clear7 .ensures) (d .kept .1 .1 .1 .0 ∙ log),
+              zeros-as _ _ _ (clear8 .ensures) (d .kept .1 .1 .1 .1 .0),
             ),
           ),
         ),

@@ -10,30 +10,44 @@ use Rattle.execution.proofs.stage_lane.Tie as tie
 stage-insert-requires : tie.Need-stage-insert-requires
 unfolding fetched
 stage-insert-requires c κs =
-    let n = ap (λ (x : Args). x .count) (c .before .before .before .before .before .fetch .ensures) in
-    (c .before .before .before .before .before .before .before .before .before .before .before .pre .1, omega (arith, c .before .before .before .before .before .before .before .before .before .before .before .pre .0 .1))
+    let pre = c .before .before .before .before .before .before .before .before .before .before .before .pre in
+    let fetch = c .before .before .before .before .before .fetch in
+    let n = ap (λ (x : Args). x .count) (fetch .ensures) in
+    (pre .1, omega (arith, pre .0 .1))
 
 stage-remove-requires : tie.Need-stage-remove-requires
 unfolding fetched
 stage-remove-requires c κs =
-    let n = ap (λ (x : Args). x .count) (c .before .before .before .before .before .fetch .ensures) in
-    (c .before .before .before .before .before .before .before .before .before .before .before .pre .1, omega (arith, c .before .before .before .before .before .before .before .before .before .before .before .pre .0 .1))
+    let pre = c .before .before .before .before .before .before .before .before .before .before .before .pre in
+    let fetch = c .before .before .before .before .before .fetch in
+    let n = ap (λ (x : Args). x .count) (fetch .ensures) in
+    (pre .1, omega (arith, pre .0 .1))
 
 returns : tie.Need-returns
 unfolding stagedLane
 returns c =
+    let going = c .before .before .before .before .before .before .before .before .before .before .going in
+    let if1 = c .before .before .before .before .before .before .before .before .before .if1 in
+    let fetch = c .before .before .before .before .before .before .before .before .fetch in
+    let enum-told = c .before .before .before .before .before .enum-told in
     let e = c .before .before .stage-insert .ensures in
-    (rw (← c .before .before .before .before .before .before .before .before .before .before .going .ensures, c .before .before .before .before .before .before .before .before .before .if1 .taken, ← c .before .before .before .before .before .before .before .before .fetch .ensures, c .before .before .before .before .before .enum-told .given .1) (e .0), e .1)
+    (rw (← going .ensures, if1 .taken, ← fetch .ensures, enum-told .given .1) (e .0), e .1)
 
 returns-2 : tie.Need-returns-2
 unfolding stagedLane
 returns-2 c =
+    let going = c .before .before .before .before .before .before .before .before .before .before .going in
+    let if1 = c .before .before .before .before .before .before .before .before .before .if1 in
+    let fetch = c .before .before .before .before .before .before .before .before .fetch in
+    let enum-told2 = c .before .before .before .before .before .enum-told2 in
     let e = c .before .before .stage-remove .ensures in
-    (rw (← c .before .before .before .before .before .before .before .before .before .before .going .ensures, c .before .before .before .before .before .before .before .before .before .if1 .taken, ← c .before .before .before .before .before .before .before .before .fetch .ensures, c .before .before .before .before .before .enum-told2 .given .1) (e .0), e .1)
+    (rw (← going .ensures, if1 .taken, ← fetch .ensures, enum-told2 .given .1) (e .0), e .1)
 
 returns-3 : tie.Need-returns-3
 unfolding stagedLane
-returns-3 c = (rw (← c .before .going .ensures, c .if1 .left), c .before .before .before .before .before .pre .1)
+returns-3 c =
+    let pre = c .before .before .before .before .before .pre in
+    (rw (← c .before .going .ensures, c .if1 .left), pre .1)
 
 pub stage-lane-spec : {M : Type 1} → statement M
 stage-lane-spec =

@@ -34,8 +34,9 @@ loop-again c =
 returns : tie.Need-returns Inv-loop μ-loop
 unfolding stagedLanes stagedLane
 returns c =
+    let a = c .before .before .before .before .before .before .args in
     let l = c .before .loop in
-    let m = c .before .before .before .before .before .before .args .t4 .live in
+    let m = a .t4 .live in
     (live-turns m (search needs) _ (l .i) _ _ (l .inv .3) (omega (arith, c .before .before .end .ensures .0)) (λ k q. rw q), l .inv .2)
 
 pub stage-lanes-spec : {M : Type 1} → statement M

@@ -24,41 +24,53 @@ unfolding rowsAdded
 loop-holds c = (search needs, omega arith, rw add-zero (c .before .before .pre .2), refl)
 
 add-add : tie.Need-add-add Inv-loop μ-loop
-add-add c = omega (arith, c .before .before .before .before .before .before .pre .1, c .before .if1 .taken)
+add-add c =
+    let pre = c .before .before .before .before .before .before .pre in
+    omega (arith, pre .1, c .before .if1 .taken)
 
 home-requires : tie.Need-home-requires Inv-loop μ-loop
 home-requires c κs =
+    let pre = c .before .before .before .before .before .before .pre in
     let a = c .before .before .before .before .before .before .args in
     let l = c .before .before .before .loop in
-    omega (arith, row-within (l .i) (a .info .rows) (a .info .width) (c .before .if1 .taken), c .before .before .before .before .before .before .pre .0 .rows, c .before .before .before .before .before .before .pre .0 .keys, c .before .before .before .before .before .before .pre .0 .few, l .inv .1)
+    omega (arith, row-within (l .i) (a .info .rows) (a .info .width) (c .before .if1 .taken), pre .0 .rows, pre .0 .keys, pre .0 .few, l .inv .1)
 
 add-requires : tie.Need-add-requires Inv-loop μ-loop
 add-requires c κs =
+    let pre = c .before .before .before .before .before .before .before .pre in
     let l = c .before .before .before .before .loop in
-    (l .inv .2 .size, omega (arith, c .before .before .before .before .before .before .before .pre .1, c .before .before .if1 .taken), c .home .ensures .1, l .inv .2 .below (c .home .result) (c .home .ensures .1))
+    (l .inv .2 .size, omega (arith, pre .1, c .before .before .if1 .taken), c .home .ensures .1, l .inv .2 .below (c .home .result) (c .home .ensures .1))
 
 add-at : tie.Need-add-at Inv-loop μ-loop
 add-at c =
+    let pre = c .before .before .before .before .before .before .before .before .before .before .before .pre in
+    let good = c .before .before .before .before .before .before .before .before .before .before .before .good in
+    let if1 = c .before .before .before .before .before .before .if1 in
     let a = c .before .before .before .before .before .before .before .before .before .before .before .args in
     let l = c .before .before .before .before .before .before .before .before .loop in
-    omega (arith, row-within (l .i) (a .info .rows) (a .info .width) (c .before .before .before .before .before .before .if1 .taken), c .before .before .before .before .before .before .before .before .before .before .before .pre .0 .rows, c .before .before .before .before .before .before .before .before .before .before .before .good, l .inv .1)
+    omega (arith, row-within (l .i) (a .info .rows) (a .info .width) (if1 .taken), pre .0 .rows, good, l .inv .1)
 
 loop-again : tie.Need-loop-again Inv-loop μ-loop
 unfolding rowsAdded
 loop-again c =
+    let if1 = c .before .before .before .before .before .before .if1 in
+    let home = c .before .before .before .before .home in
+    let add = c .before .before .before .add in
     let a = c .before .before .before .before .before .before .before .before .before .before .before .args in
     let l = c .before .before .before .before .before .before .before .before .loop in
     let h = homeIn (now (a .words)) (a .info) (l .i) in
-    let e : c .before .before .before .add .last .0 ≡ added (a .first + l .i) h (l .index) = c .before .before .before .add .ensures ∙ ap (λ (x : ℕ). added (a .first + l .i) x (l .index)) (c .before .before .before .before .home .ensures .0 ∙ ap (λ (p : ℕ). homeAt (now (a .words)) p (a .info .keys)) (l .inv .1)) in
+    let e : add .last .0 ≡ added (a .first + l .i) h (l .index) = add .ensures ∙ ap (λ (x : ℕ). added (a .first + l .i) x (l .index)) (home .ensures .0 ∙ ap (λ (p : ℕ). homeAt (now (a .words)) p (a .info .keys)) (l .inv .1)) in
     let m : a .first + (l .i + 1) ≡ a .first + l .i + 1 = omega arith in (
-      omega (arith, c .before .before .before .before .before .before .if1 .taken),
+      omega (arith, if1 .taken),
       omega (arith, l .inv .1, next-row (l .i) (a .info .width)),
       rw (m, e) (tails-more (a .first + l .i) h (l .index) (l .inv .2) (row-home-below (now (a .words)) (a .info) (l .i))),
       iter-more (λ i. added (a .first + i) (homeIn (now (a .words)) (a .info) i)) (l .i) _ (l .index) _ (l .inv .3) e,
     )
 
 same-length : tie.Need-same-length Inv-loop μ-loop
-same-length c = c .before .before .loop .inv .2 .size ∙ sym (c .before .before .before .before .before .pre .2 .size)
+same-length c =
+    let pre = c .before .before .before .before .before .pre in
+    c .before .before .loop .inv .2 .size ∙ sym (pre .2 .size)
 
 returns : tie.Need-returns Inv-loop μ-loop
 returns c =

@@ -16,8 +16,9 @@ same-length c = search needs
 
 returns : tie.Need-returns
 returns c =
+    let pre = c .before .before .before .before .before .before .pre in
     let a = c .before .before .before .before .before .before .args in
-    c .before .before .add-rows .ensures ∙ ap (rowsAdded (now (a .words)) (a .info) 0 (a .info .rows)) (c .before .before .before .before .before .before .pre .2) ∙ rows-alone (now (a .words)) (a .info) (a .info .rows)
+    c .before .before .add-rows .ensures ∙ ap (rowsAdded (now (a .words)) (a .info) 0 (a .info .rows)) (pre .2) ∙ rows-alone (now (a .words)) (a .info) (a .info .rows)
 
 pub build-spec : {M : Type 1} → statement M
 build-spec = tie.close (tie.spec add-rows-requires same-length returns)

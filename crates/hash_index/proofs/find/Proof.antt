@@ -17,23 +17,29 @@ abbrev μ-loop : tie.MeasureT-loop
 
 shared-slice-read-size : tie.Need-shared-slice-read-size Inv-loop μ-loop
 shared-slice-read-size c =
+    let pre = c .before .before .before .before .before .pre in
     let a = c .before .before .before .before .before .args in
-    omega (arith, c .before .home .ensures .1, has-length (now (a .words)) (a .info) (now (a .key)) (a .first) (now (a .index)) (c .before .before .before .before .before .pre .1))
+    omega (arith, c .before .home .ensures .1, has-length (now (a .words)) (a .info) (now (a .key)) (a .first) (now (a .index)) (pre .1))
 
 loop-holds : tie.Need-loop-holds Inv-loop μ-loop
 loop-holds c =
+    let pre = c .before .before .before .before .before .before .pre in
     let a = c .before .before .before .before .before .before .args in
-    let h = c .before .before .before .before .before .before .pre .1 in
+    let h = pre .1 in
     (h, rw (c .size .ensures .0, c .before .before .home .ensures .0) (reached-head (now (a .words)) (a .info) (now (a .key)) (a .first) (now (a .index)) h))
 
 is-row-requires : tie.Need-is-row-requires Inv-loop μ-loop
-is-row-requires c κs = let h = c .before .loop .inv .0 in (c .before .before .before .before .before .before .before .before .pre .0, omega (arith, h .within, h .few))
+is-row-requires c κs =
+    let pre = c .before .before .before .before .before .before .before .before .pre in
+    let h = c .before .loop .inv .0 in (pre .0, omega (arith, h .within, h .few))
 
 place-requires : tie.Need-place-requires Inv-loop μ-loop
 place-requires c κs =
+    let pre = c .before .before .before .before .before .before .before .before .before .before .pre in
+    let good = c .before .before .before .before .before .before .before .before .before .before .good in
     let a = c .before .before .before .before .before .before .before .before .before .before .args in
     let r = row-told (now (a .words)) (a .info) (now (a .key)) (a .first) (c .before .before .before .loop .p) (sym (c .before .is-row .ensures) ∙ c .if1 .taken) in
-    (r .after, r .within, omega (arith, c .before .before .before .before .before .before .before .before .before .before .pre .0 .rows, c .before .before .before .before .before .before .before .before .before .before .good))
+    (r .after, r .within, omega (arith, pre .0 .rows, good))
 
 returns : tie.Need-returns Inv-loop μ-loop
 returns c =
@@ -65,16 +71,18 @@ shared-slice-read-size-2 c =
 
 loop-less : tie.Need-loop-less Inv-loop μ-loop
 loop-less c =
+    let loop-test = c .before .before .before .before .loop-test in
     let a = c .before .before .before .before .before .before .before .before .before .before .before .before .args in
     let l = c .before .before .before .before .before .loop in
-    let s = standing (now (a .words)) (a .info) (now (a .key)) (a .first) (now (a .index)) (l .inv .0) (l .p) (l .inv .1) (c .before .before .before .before .loop-test .taken) in
+    let s = standing (now (a .words)) (a .info) (now (a .key)) (a .first) (now (a .index)) (l .inv .0) (l .p) (l .inv .1) (loop-test .taken) in
     rw (c .size2 .ensures .0) (s .less)
 
 loop-again : tie.Need-loop-again Inv-loop μ-loop
 loop-again c =
+    let loop-test = c .before .before .before .before .loop-test in
     let a = c .before .before .before .before .before .before .before .before .before .before .before .before .args in
     let l = c .before .before .before .before .before .loop in
-    let s = standing (now (a .words)) (a .info) (now (a .key)) (a .first) (now (a .index)) (l .inv .0) (l .p) (l .inv .1) (c .before .before .before .before .loop-test .taken) in
+    let s = standing (now (a .words)) (a .info) (now (a .key)) (a .first) (now (a .index)) (l .inv .0) (l .p) (l .inv .1) (loop-test .taken) in
     (l .inv .0, rw (c .size2 .ensures .0) (s .on (sym (c .before .before .before .is-row .ensures) ∙ c .before .before .if1 .left)))
 
 returns-2 : tie.Need-returns-2 Inv-loop μ-loop

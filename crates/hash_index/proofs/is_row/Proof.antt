@@ -19,16 +19,22 @@ unfolding isRow
 returns-2 c = rw (lt-ltb _ _ (c .before .before .if1 .left), lt-leb _ _ (c .if2 .taken))
 
 place-requires : tie.Need-place-requires
-place-requires c κs = (c .before .before .if1 .left, c .if2 .left, omega (arith, c .before .before .before .before .pre .0 .rows, c .before .before .before .before .good))
+place-requires c κs =
+    let pre = c .before .before .before .before .pre in
+    let good = c .before .before .before .before .good in
+    (c .before .before .if1 .left, c .if2 .left, omega (arith, pre .0 .rows, good))
 
 same-words-requires : tie.Need-same-words-requires
 same-words-requires c κs =
+    let pre = c .before .before .before .before .before .pre in
     let a = c .before .before .before .before .before .args in
-    omega (arith, row-within (a .p - 1 - a .first) (a .info .rows) (a .info .width) (omega (arith, c .before .before .before .if1 .left, c .before .if2 .left)), c .before .before .before .before .before .pre .0 .rows, c .before .before .before .before .before .pre .0 .keys, c .before .before .before .before .before .pre .0 .few, c .place .ensures)
+    omega (arith, row-within (a .p - 1 - a .first) (a .info .rows) (a .info .width) (omega (arith, c .before .before .before .if1 .left, c .before .if2 .left)), pre .0 .rows, pre .0 .keys, pre .0 .few, c .place .ensures)
 
 returns-3 : tie.Need-returns-3
 unfolding isRow
-returns-3 c = rw (lt-ltb _ _ (c .before .before .before .before .if1 .left), le-leb _ _ (c .before .before .if2 .left), ← c .before .place .ensures) (c .same-words .ensures)
+returns-3 c =
+    let if1 = c .before .before .before .before .if1 in
+    rw (lt-ltb _ _ (if1 .left), le-leb _ _ (c .before .before .if2 .left), ← c .before .place .ensures) (c .same-words .ensures)
 
 pub is-row-spec : {M : Type 1} → statement M
 is-row-spec = tie.close (tie.spec returns add-if2 returns-2 place-requires same-words-requires returns-3)

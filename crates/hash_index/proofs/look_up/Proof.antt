@@ -6,8 +6,9 @@ use Rattle.hash_index.proofs.look_up.Tie as tie
 
 look-up-among-requires : tie.Need-look-up-among-requires
 look-up-among-requires c κs =
+    let pre = c .before .before .pre in
     let a = c .before .before .args in
-    (c .before .before .pre .0, among-alone (now (a .words)) (a .info) (now (a .index)) (c .before .before .pre .1))
+    (pre .0, among-alone (now (a .words)) (a .info) (now (a .index)) (pre .1))
 
 returns : tie.Need-returns
 returns c = search needs

@@ -59,7 +59,9 @@ unfolding instrBy
 returns-13 c = c .read-counter-at .ensures ∙ rw (← c .before .before .word .ensures, c .before .match .keys13)
 
 returns-14 : tie.Need-returns-14
-returns-14 c = let w = now (c .before .before .before .args .words) in rw (← c .before .word .ensures) (instr-rest w _ (c .before .before .before .args .p) (c .match .rest))
+returns-14 c =
+    let a = c .before .before .before .args in
+    let w = now (a .words) in rw (← c .before .word .ensures) (instr-rest w _ (a .p) (c .match .rest))
 
 pub instr-at-spec : {M : Type 1} → statement M
 instr-at-spec =

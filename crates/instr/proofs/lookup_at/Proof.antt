@@ -5,7 +5,9 @@ use Rattle.instr.proofs.lookup_at.Tie as tie
 
 returns : tie.Need-returns
 unfolding lookupAt
-returns c = rw (c .word3 .ensures, c .before .word2 .ensures, c .before .before .end .ensures, c .before .before .before .list-at .ensures .0, c .before .before .before .before .word .ensures)
+returns c =
+    let word = c .before .before .before .before .word in
+    rw (c .word3 .ensures, c .before .word2 .ensures, c .before .before .end .ensures, c .before .before .before .list-at .ensures .0, word .ensures)
 
 pub lookup-at-spec : {M : Type 1} → statement M
 lookup-at-spec =

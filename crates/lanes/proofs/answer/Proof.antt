@@ -4,17 +4,27 @@ use Rattle.lanes.proofs.answer.Statement.{statement}
 use Rattle.lanes.proofs.answer.Tie as tie
 
 fetch-requires : tie.Need-fetch-requires
-fetch-requires c κs = (rw (c .before .ask .given .1) at (c .before .before .before .before .before .before .pre)) .1
+fetch-requires c κs =
+    let pre = c .before .before .before .before .before .before .pre in
+    (rw (c .before .ask .given .1) at (pre)) .1
 
 row-of-requires : tie.Need-row-of-requires
-row-of-requires c κs = (rw (c .before .before .before .before .before .before .ask .given .1) at (c .before .before .before .before .before .before .before .before .before .before .before .pre)) .0
+row-of-requires c κs =
+    let pre = c .before .before .before .before .before .before .before .before .before .before .before .pre in
+    let ask = c .before .before .before .before .before .before .ask in
+    (rw (ask .given .1) at (pre)) .0
 
 fetch-requires-2 : tie.Need-fetch-requires-2
-fetch-requires-2 c κs = rw (c .before .ask2 .given .1) at (c .before .before .before .before .before .before .pre)
+fetch-requires-2 c κs =
+    let pre = c .before .before .before .before .before .before .pre in
+    rw (c .before .ask2 .given .1) at (pre)
 
 returns : tie.Need-returns
 unfolding asked
-returns c = rw (c .before .before .before .before .before .before .before .before .ask .given .1, ← c .before .before .before .before .before .before .fetch .ensures, ← c .before .row-of .ensures) (c .column .ensures)
+returns c =
+    let ask = c .before .before .before .before .before .before .before .before .ask in
+    let fetch = c .before .before .before .before .before .before .fetch in
+    rw (ask .given .1, ← fetch .ensures, ← c .before .row-of .ensures) (c .column .ensures)
 
 returns-2 : tie.Need-returns-2
 unfolding asked

@@ -20,27 +20,35 @@ loop-holds c = (search needs, refl)
 
 returns : tie.Need-returns Inv-loop μ-loop
 returns c =
+    let pre = c .before .before .before .before .before .before .before .pre in
+    let least = c .before .before .before .before .before .before .least in
+    let least2 = c .before .before .before .before .before .least2 in
     let l = c .before .before .before .before .loop in
     let a = c .before .before .before .before .before .before .before .args in
     let n : length (a .t1 .vals) ≡ 16 = search needs in
-    let d : c .before .before .before .before .before .before .least .result ≡ min (a .divider) (a .t1 .count) = c .before .before .before .before .before .before .least .ensures in
-    pair-differs (a .t1 .vals) (a .divider) (a .t1 .count) (omega (arith, c .before .before .before .before .before .before .before .pre)) (l .k) (omega (arith, d, c .before .before .before .before .before .least2 .ensures)) (rw d at (c .if1 .taken)) ∙ sym (l .inv .1)
+    let d : least .result ≡ min (a .divider) (a .t1 .count) = least .ensures in
+    pair-differs (a .t1 .vals) (a .divider) (a .t1 .count) (omega (arith, pre)) (l .k) (omega (arith, d, least2 .ensures)) (rw d at (c .if1 .taken)) ∙ sym (l .inv .1)
 
 loop-again : tie.Need-loop-again Inv-loop μ-loop
 loop-again c =
+    let pre = c .before .before .before .before .before .before .before .pre in
+    let least = c .before .before .before .before .before .before .least in
+    let least2 = c .before .before .before .before .before .least2 in
     let l = c .before .before .before .before .loop in
     let a = c .before .before .before .before .before .before .before .args in
     let n : length (a .t1 .vals) ≡ 16 = search needs in
-    let d : c .before .before .before .before .before .before .least .result ≡ min (a .divider) (a .t1 .count) = c .before .before .before .before .before .before .least .ensures in
-    (search needs, l .inv .1 ∙ pair-agrees (a .t1 .vals) (a .divider) (a .t1 .count) (omega (arith, c .before .before .before .before .before .before .before .pre)) (l .k) (omega (arith, d, c .before .before .before .before .before .least2 .ensures)) (rw d at (c .if1 .left)))
+    let d : least .result ≡ min (a .divider) (a .t1 .count) = least .ensures in
+    (search needs, l .inv .1 ∙ pair-agrees (a .t1 .vals) (a .divider) (a .t1 .count) (omega (arith, pre)) (l .k) (omega (arith, d, least2 .ensures)) (rw d at (c .if1 .left)))
 
 returns-2 : tie.Need-returns-2 Inv-loop μ-loop
 returns-2 c =
+    let pre = c .before .before .before .before .pre in
+    let least = c .before .before .before .least in
     let l = c .before .loop in
     let a = c .before .before .before .before .args in
     let n : length (a .t1 .vals) ≡ 16 = search needs in
-    let d : c .before .before .before .least .result ≡ min (a .divider) (a .t1 .count) = c .before .before .before .least .ensures in
-    no-more-pairs (a .t1 .vals) (a .divider) (a .t1 .count) (omega (arith, c .before .before .before .before .pre)) (l .k) (omega (arith, d, c .before .before .least2 .ensures)) ∙ sym (l .inv .1)
+    let d : least .result ≡ min (a .divider) (a .t1 .count) = least .ensures in
+    no-more-pairs (a .t1 .vals) (a .divider) (a .t1 .count) (omega (arith, pre)) (l .k) (omega (arith, d, c .before .before .least2 .ensures)) ∙ sym (l .inv .1)
 
 pub any-ne-spec : {M : Type 1} → statement M
 any-ne-spec =

@@ -26,15 +26,18 @@ loop-holds c = (search needs, search needs, filled-none _ _, filled-none _ _)
 
 loop-again : tie.Need-loop-again Inv-loop μ-loop
 loop-again c =
+    let pre = c .before .before .before .before .before .before .before .before .before .before .before .before .before .pre in
+    let new = c .before .before .before .before .before .before .before .before .new in
+    let answer-live = c .before .before .before .answer-live in
     let l = c .before .before .before .before .before .before .loop in
     let a = c .before .before .before .before .before .before .before .before .before .before .before .before .before .args in
-    let n : length (c .before .before .before .before .before .before .before .before .new .result .live) ≡ 256 = search needs in
+    let n : length (new .result .live) ≡ 256 = search needs in
     let ask : ℕ → Option ℕ = λ k. only (getD (a .t5 .live) k false) (asked (now (a .words)) (now (a .bindings)) (a .ask) k) in
     let f : ℕ → ℕ = λ k. orElse (ask k) (getD (now (a .out)) k 0) in (
       search needs,
       search needs,
-      filled-turn (λ k. isSome (ask k)) (l .i) _ (l .found .live) _ false (l .inv .2) (c .is-word .ensures ∙ ap isSome (c .before .before .before .answer-live .ensures)) (omega arith),
-      filled-turn f (l .i) (now (a .out)) (l .out) _ 0 (l .inv .3) (c .before .word-or .ensures ∙ rw (c .before .before .before .answer-live .ensures, word-before f (l .i) (now (a .out)) (l .out) (l .inv .3))) (omega (arith, c .before .before .before .before .before .before .before .before .before .before .before .before .before .pre .1)),
+      filled-turn (λ k. isSome (ask k)) (l .i) _ (l .found .live) _ false (l .inv .2) (c .is-word .ensures ∙ ap isSome (answer-live .ensures)) (omega arith),
+      filled-turn f (l .i) (now (a .out)) (l .out) _ 0 (l .inv .3) (c .before .word-or .ensures ∙ rw (answer-live .ensures, word-before f (l .i) (now (a .out)) (l .out) (l .inv .3))) (omega (arith, pre .1)),
     )
 
 returns : tie.Need-returns Inv-loop μ-loop

@@ -5,11 +5,15 @@ use Rattle.lanes.proofs.passes.Statement.{statement}
 use Rattle.lanes.proofs.passes.Tie as tie
 
 fetch-requires : tie.Need-fetch-requires
-fetch-requires c κs = rw (c .before .test3 .given .1) at (c .before .before .before .before .before .pre)
+fetch-requires c κs =
+    let pre = c .before .before .before .before .before .pre in
+    rw (c .before .test3 .given .1) at (pre)
 
 any-ne-requires : tie.Need-any-ne-requires
 unfolding fetched
-any-ne-requires c κs = rw (c .fetch .ensures) ((rw (c .before .before .test3 .given .1) at (c .before .before .before .before .before .before .pre)) .1)
+any-ne-requires c κs =
+    let pre = c .before .before .before .before .before .before .pre in
+    rw (c .fetch .ensures) ((rw (c .before .before .test3 .given .1) at (pre)) .1)
 
 returns : tie.Need-returns
 unfolding holds

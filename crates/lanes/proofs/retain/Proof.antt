@@ -24,12 +24,13 @@ loop-holds c = (search needs, filled-none _ _)
 
 loop-again : tie.Need-loop-again Inv-loop μ-loop
 loop-again c =
+    let end = c .before .before .before .before .before .end in
     let a = c .before .before .before .before .before .before .before .before .args in
     let l = c .before .before .before .before .loop in
     let test = holds (now (a .words)) (now (a .bindings)) (a .test) in
     let m = a .t4 .live in
     let w : length m ≡ 256 = search needs in
-    let h : l .i < length m = omega (arith, c .before .before .before .loop-test .taken, c .before .before .before .before .before .end .ensures .1) in
+    let h : l .i < length m = omega (arith, c .before .before .before .loop-test .taken, end .ensures .1) in
     let fails = c .before .fails .ensures in (
       search needs,
       ⊎-elim
@@ -41,8 +42,9 @@ loop-again c =
 returns : tie.Need-returns Inv-loop μ-loop
 unfolding kept
 returns c =
+    let a = c .before .before .before .before .before .args in
     let l = c .before .loop in
-    let m = c .before .before .before .before .before .args .t4 .live in
+    let m = a .t4 .live in
     let w : length m ≡ 256 = search needs in
     live-lanes m w _ m (l .left .live) false (l .i) (l .inv .1) w (omega (arith, c .before .before .end .ensures .0)) (λ k p q. rw q)
 

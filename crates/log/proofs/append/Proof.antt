@@ -23,9 +23,10 @@ same-length c = c .before .before .store .kept .0 ∙ simp length-set
 
 returns-2 : tie.Need-returns-2
 returns-2 c =
+    let if1 = c .before .before .before .before .if1 in
     let a = c .before .before .before .before .before .before .args in
     let n : a .used + 2 + a .count ≡ a .used + length (recordOf (a .kind) (a .table .0) (now (a .row)) (a .count)) = omega (arith, length-record (a .kind) (a .table .0) (now (a .row)) (a .count)) in
-    let r = room (now (a .log)) (a .used) (recordOf (a .kind) (a .table .0) (now (a .row)) (a .count)) (omega (arith, n, c .before .before .before .before .if1 .left)) in
+    let r = room (now (a .log)) (a .used) (recordOf (a .kind) (a .table .0) (now (a .row)) (a .count)) (omega (arith, n, if1 .left)) in
     (ap Used n ∙ r .0, c .before .before .store .ensures ∙ store-record (a .kind) (a .table .0) (now (a .row)) (a .count) (now (a .log)) (a .used) ∙ r .1)
 
 pub append-spec : {M : Type 1} → statement M

@@ -5,19 +5,29 @@ use Rattle.predict.proofs.insert.Tie as tie
 
 returns : tie.Need-returns
 unfolding inserted
-returns c = (rw (← c .before .before .build .ensures .0, c .before .if1 .taken, c .stop .ensures), rw (c .stop .ensures) (c .before .before .before .before .before .before .before .pre .2 .used))
+returns c =
+    let pre = c .before .before .before .before .before .before .before .pre in
+    (rw (← c .before .before .build .ensures .0, c .before .if1 .taken, c .stop .ensures), rw (c .stop .ensures) (pre .2 .used))
 
 returns-2 : tie.Need-returns-2
 unfolding inserted
 returns-2 c =
-    let e = c .before .before .before .before .before .before .before .before .stage .ensures in
-    (rw (← c .before .before .before .before .before .before .before .before .before .before .before .before .before .before .before .build .ensures .0, c .before .before .before .before .before .before .before .before .before .before .before .before .before .before .if1 .left, ← e .0, ← c .before .before .before .before .before .going .ensures, c .before .before .before .before .if2 .taken, c .before .before .insert .ensures), e .1)
+    let build = c .before .before .before .before .before .before .before .before .before .before .before .before .before .before .before .build in
+    let if1 = c .before .before .before .before .before .before .before .before .before .before .before .before .before .before .if1 in
+    let stage = c .before .before .before .before .before .before .before .before .stage in
+    let going = c .before .before .before .before .before .going in
+    let if2 = c .before .before .before .before .if2 in
+    let e = stage .ensures in
+    (rw (← build .ensures .0, if1 .left, ← e .0, ← going .ensures, if2 .taken, c .before .before .insert .ensures), e .1)
 
 returns-3 : tie.Need-returns-3
 unfolding inserted
 returns-3 c =
-    let e = c .before .before .before .before .before .stage .ensures in
-    (rw (← c .before .before .before .before .before .before .before .before .before .before .before .before .build .ensures .0, c .before .before .before .before .before .before .before .before .before .before .before .if1 .left, ← e .0, ← c .before .before .going .ensures, c .before .if2 .left, c .stop2 .ensures), rw (c .stop2 .ensures) (e .1))
+    let build = c .before .before .before .before .before .before .before .before .before .before .before .before .build in
+    let if1 = c .before .before .before .before .before .before .before .before .before .before .before .if1 in
+    let stage = c .before .before .before .before .before .stage in
+    let e = stage .ensures in
+    (rw (← build .ensures .0, if1 .left, ← e .0, ← c .before .before .going .ensures, c .before .if2 .left, c .stop2 .ensures), rw (c .stop2 .ensures) (e .1))
 
 pub insert-spec : {M : Type 1} → statement M
 insert-spec =

@@ -5,17 +5,24 @@ use Rattle.predict.proofs.predict_val.Statement.{statement}
 use Rattle.predict.proofs.predict_val.Tie as tie
 
 look-up-among-requires : tie.Need-look-up-among-requires
-look-up-among-requires c κs = (c .before .before .before .before .before .before .before .pre .0 .stands, c .before .before .before .before .before .before .before .pre .0 .indexed)
+look-up-among-requires c κs =
+    let pre = c .before .before .before .before .before .before .before .pre in
+    (pre .0 .stands, pre .0 .indexed)
 
 returns : tie.Need-returns
 unfolding answered
-returns c = (rw (← c .before .before .look-up-among .ensures, c .enum-told .given .1), c .before .before .before .before .before .before .before .before .before .before .pre .3 .used)
+returns c =
+    let pre = c .before .before .before .before .before .before .before .before .before .before .pre in
+    (rw (← c .before .before .look-up-among .ensures, c .enum-told .given .1), pre .3 .used)
 
 returns-2 : tie.Need-returns-2
 unfolding answered
 returns-2 c =
-    let e = c .before .before .before .before .before .get-or-insert-with .ensures in
-    (rw (← c .before .before .before .before .before .before .before .before .before .before .look-up-among .ensures, c .before .before .before .before .before .before .before .before .enum-told2 .given .1, c .note-change .ensures) (ap (λ (g : Gotten). record { got = noted (g .got); log = g .log; index = g .index }) (e .0)), rw (c .note-change .ensures) (e .1))
+    let look-up-among = c .before .before .before .before .before .before .before .before .before .before .look-up-among in
+    let enum-told2 = c .before .before .before .before .before .before .before .before .enum-told2 in
+    let get-or-insert-with = c .before .before .before .before .before .get-or-insert-with in
+    let e = get-or-insert-with .ensures in
+    (rw (← look-up-among .ensures, enum-told2 .given .1, c .note-change .ensures) (ap (λ (g : Gotten). record { got = noted (g .got); log = g .log; index = g .index }) (e .0)), rw (c .note-change .ensures) (e .1))
 
 pub predict-val-spec : {M : Type 1} → statement M
 predict-val-spec =

@@ -18,13 +18,20 @@ get-or-insert-with-requires c κs =
 returns : tie.Need-returns
 unfolding servedLane
 returns c =
+    let going = c .before .before .before .before .before .before .before .before .before .before .before .before .before .before .before .before .before .going in
+    let if1 = c .before .before .before .before .before .before .before .before .before .before .before .before .before .before .before .before .if1 in
+    let fetch = c .before .before .before .before .before .before .before .before .before .before .before .before .before .before .before .fetch in
+    let get-or-insert-with = c .before .before .before .before .before .before .before .before .before .before .before .before .get-or-insert-with in
+    let going2 = c .before .before .before .before .before .before .going2 in
     let a = c .before .before .before .before .before .before .before .before .before .before .before .before .before .before .before .before .before .before .before .before .before .before .before .before .args in
-    let e = c .before .before .before .before .before .before .before .before .before .before .before .before .get-or-insert-with .ensures in
-    (rw (← c .before .before .before .before .before .before .before .before .before .before .before .before .before .before .before .before .before .going .ensures, c .before .before .before .before .before .before .before .before .before .before .before .before .before .before .before .before .if1 .taken, ← c .before .before .before .before .before .before .before .before .before .before .before .before .before .before .before .fetch .ensures, c .before .before .take .ensures, c .before .before .before .before .before .before .going2 .ensures) (ap (λ (g : Gotten). taken (now (a .words)) (a .ask) (c .before .before .before .before .before .before .before .before .before .before .before .before .before .before .before .fetch .result .vals) (a .lane .0) (now (a .out)) g) (e .0)), e .1)
+    let e = get-or-insert-with .ensures in
+    (rw (← going .ensures, if1 .taken, ← fetch .ensures, c .before .before .take .ensures, going2 .ensures) (ap (λ (g : Gotten). taken (now (a .words)) (a .ask) (fetch .result .vals) (a .lane .0) (now (a .out)) g) (e .0)), e .1)
 
 returns-2 : tie.Need-returns-2
 unfolding servedLane
-returns-2 c = (rw (← c .before .going .ensures, c .if1 .left), c .before .before .before .before .before .before .before .before .pre .3 .used)
+returns-2 c =
+    let pre = c .before .before .before .before .before .before .before .before .pre in
+    (rw (← c .before .going .ensures, c .if1 .left), pre .3 .used)
 
 pub serve-lane-spec : {M : Type 1} → statement M
 serve-lane-spec =

@@ -28,10 +28,13 @@ loop-holds c = (search needs, refl, refl, refl, search needs, refl)
 
 serve-lane-requires : tie.Need-serve-lane-requires Inv-loop μ-loop
 serve-lane-requires c κs =
+    let end = c .before .before .before .before .before .before .end in
+    let l = c .before .before .before .before .before .loop in
+    let loop-test = c .before .before .before .before .loop-test in
     let p = c .before .before .before .before .before .before .before .before .before .before .before .before .before .pre in
-    let v = c .before .before .before .before .before .loop .inv in
+    let v = l .inv in
     let r = p .3 in
-    (p .0, p .1, p .2, record { used = omega (arith, v .4, v .1); short = omega (arith, r .short, v .1); slots = v .2 ∙ r .slots }, omega (arith, c .before .before .before .before .loop-test .taken, p .4, v .3, c .before .before .before .before .before .before .end .ensures .1))
+    (p .0, p .1, p .2, record { used = omega (arith, v .4, v .1); short = omega (arith, r .short, v .1); slots = v .2 ∙ r .slots }, omega (arith, loop-test .taken, p .4, v .3, end .ensures .1))
 
 loop-again : tie.Need-loop-again Inv-loop μ-loop
 loop-again c =
@@ -49,8 +52,9 @@ loop-again c =
 returns : tie.Need-returns Inv-loop μ-loop
 unfolding servedLanes servedLane
 returns c =
+    let a = c .before .before .before .before .before .before .before .before .before .args in
     let l = c .before .loop in
-    let m = c .before .before .before .before .before .before .before .before .before .args .t5 .live in
+    let m = a .t5 .live in
     (live-turns m (search needs) _ (l .i) _ _ (l .inv .5) (omega (arith, c .before .before .end .ensures .0)) (λ k q. rw q), l .inv .4)
 
 pub serve-lanes-spec : {M : Type 1} → statement M

@@ -4,10 +4,15 @@ use Rattle.predict.proofs.take.Statement.{statement}
 use Rattle.predict.proofs.take.Tie as tie
 
 mul-out : tie.Need-mul-out
-mul-out c = omega (arith, c .before .before .before .before .before .before .before .before .before .before .before .pre .1, c .before .before .before .before .before .before .before .before .before .before .before .good)
+mul-out c =
+    let pre = c .before .before .before .before .before .before .before .before .before .before .before .pre in
+    let good = c .before .before .before .before .before .before .before .before .before .before .before .good in
+    omega (arith, pre .1, good)
 
 returns : tie.Need-returns
-returns c = rw (c .before .before .before .before .before .if1 .taken, c .word .ensures, c .before .size .ensures .0, c .before .before .row-of .ensures)
+returns c =
+    let if1 = c .before .before .before .before .before .if1 in
+    rw (if1 .taken, c .word .ensures, c .before .size .ensures .0, c .before .before .row-of .ensures)
 
 returns-2 : tie.Need-returns-2
 returns-2 c = rw (c .if1 .left)

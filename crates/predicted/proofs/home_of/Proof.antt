@@ -23,16 +23,19 @@ loop-holds c = (search needs, folded-none (c .mix .result) (λ j. getD (now (c .
 
 loop-again : tie.Need-loop-again Inv-loop μ-loop
 loop-again c =
+    let a = c .before .before .before .before .before .args in
+    let mix = c .before .before .before .before .mix in
     let l = c .before .before .before .loop in
-    (search needs, folded-more (c .before .before .before .before .mix .result) (λ j. getD (now (c .before .before .before .before .before .args .key)) j 0) (l .i) (l .h) (c .mix2 .result) (l .inv .1) (c .mix2 .ensures))
+    (search needs, folded-more (mix .result) (λ j. getD (now (a .key)) j 0) (l .i) (l .h) (c .mix2 .result) (l .inv .1) (c .mix2 .ensures))
 
 returns : tie.Need-returns Inv-loop μ-loop
 unfolding homeOf folded
 returns c =
+    let mix = c .before .before .before .mix in
     let a = c .before .before .before .before .args in
     let l = c .before .before .loop in
     let e : l .i ≡ a .k = omega arith in
-    let h : l .h / 524288 ≡ homeOf (a .table .0) (front (now (a .key)) (a .k)) = ap (λ (x : ℕ). x / 524288) (l .inv .1 ∙ ap (λ (n : ℕ). folded (c .before .before .before .mix .result) (front (now (a .key)) n)) e ∙ ap (λ (x : ℕ). folded x (front (now (a .key)) (a .k))) (c .before .before .before .mix .ensures)) in
+    let h : l .h / 524288 ≡ homeOf (a .table .0) (front (now (a .key)) (a .k)) = ap (λ (x : ℕ). x / 524288) (l .inv .1 ∙ ap (λ (n : ℕ). folded (mix .result) (front (now (a .key)) n)) e ∙ ap (λ (x : ℕ). folded x (front (now (a .key)) (a .k))) (mix .ensures)) in
     (c .size .ensures .0 ∙ h, rw (c .size .ensures .0 ∙ h) (home-below (a .table .0) (front (now (a .key)) (a .k))))
 
 pub home-of-spec : {M : Type 1} → statement M

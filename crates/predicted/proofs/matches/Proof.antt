@@ -14,7 +14,9 @@ returns-2 c = rw (le-leb _ _ (c .before .before .before .if1 .left), ne-eqb _ _ 
 
 returns-3 : tie.Need-returns-3
 unfolding answers
-returns-3 c = rw (le-leb _ _ (c .before .before .before .before .if1 .left), eq-eqb _ _ (c .before .if2 .left)) (c .same-words .ensures)
+returns-3 c =
+    let if1 = c .before .before .before .before .if1 in
+    rw (le-leb _ _ (if1 .left), eq-eqb _ _ (c .before .if2 .left)) (c .same-words .ensures)
 
 pub matches-spec : {M : Type 1} → statement M
 matches-spec =

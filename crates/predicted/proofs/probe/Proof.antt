@@ -27,20 +27,23 @@ returns c =
 
 returns-2 : tie.Need-returns-2 Inv-loop μ-loop
 returns-2 c =
+    let loop-test = c .before .before .before .before .loop-test in
     let l = c .before .before .before .before .before .loop in
     let a = c .before .before .before .before .before .before .before .before .args in
     let v = c .before .before .before .size-at .ensures .0 in (
       ap (λ (x : ℕ). Hit (x - 1)) v
-          ∙ sym (l .inv .2 ∙ probe-hit (now (a .index)) (answers (now (a .log)) (a .table .0) (now (a .key)) (a .k)) 8192 (l .j) (l .s) (c .before .before .before .before .loop-test .taken) (rw v at (c .before .before .if1 .left)) (ap (answers (now (a .log)) (a .table .0) (now (a .key)) (a .k)) (sym v) ∙ sym (c .before .matches .ensures) ∙ c .if2 .taken)),
+          ∙ sym (l .inv .2 ∙ probe-hit (now (a .index)) (answers (now (a .log)) (a .table .0) (now (a .key)) (a .k)) 8192 (l .j) (l .s) (loop-test .taken) (rw v at (c .before .before .if1 .left)) (ap (answers (now (a .log)) (a .table .0) (now (a .key)) (a .k)) (sym v) ∙ sym (c .before .matches .ensures) ∙ c .if2 .taken)),
       omega arith,
     )
 
 loop-again : tie.Need-loop-again Inv-loop μ-loop
 loop-again c =
+    let loop-test = c .before .before .before .before .before .loop-test in
+    let size-at = c .before .before .before .before .size-at in
     let l = c .before .before .before .before .before .before .loop in
     let a = c .before .before .before .before .before .before .before .before .before .args in
-    let v = c .before .before .before .before .size-at .ensures .0 in
-    (search needs, search needs, l .inv .2 ∙ probe-on (now (a .index)) (answers (now (a .log)) (a .table .0) (now (a .key)) (a .k)) 8192 (l .j) (l .s) (c .before .before .before .before .before .loop-test .taken) (rw v at (c .before .before .before .if1 .left)) (ap (answers (now (a .log)) (a .table .0) (now (a .key)) (a .k)) (sym v) ∙ sym (c .before .before .matches .ensures) ∙ c .before .if2 .left) ∙ rw (c .next .ensures .0))
+    let v = size-at .ensures .0 in
+    (search needs, search needs, l .inv .2 ∙ probe-on (now (a .index)) (answers (now (a .log)) (a .table .0) (now (a .key)) (a .k)) 8192 (l .j) (l .s) (loop-test .taken) (rw v at (c .before .before .before .if1 .left)) (ap (answers (now (a .log)) (a .table .0) (now (a .key)) (a .k)) (sym v) ∙ sym (c .before .before .matches .ensures) ∙ c .before .if2 .left) ∙ rw (c .next .ensures .0))
 
 returns-3 : tie.Need-returns-3 Inv-loop μ-loop
 returns-3 c =

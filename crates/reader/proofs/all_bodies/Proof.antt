@@ -29,13 +29,15 @@ loop-holds c = (search needs, λ j h. absurd (omega arith))
 
 body-requires : tie.Need-body-requires Inv-loop μ-loop
 body-requires c κs =
+    let pre = c .before .before .before .before .before .pre in
     let z = c .before .before .before .sizes-of .ensures in
-    record { contents = c .before .before .before .before .before .pre; below = omega arith; isSizes = rw (z .tables, z .counters, z .rules) }
+    record { contents = pre; below = omega arith; isSizes = rw (z .tables, z .counters, z .rules) }
 
 returns : tie.Need-returns Inv-loop μ-loop
 returns c =
+    let a = c .before .before .before .before .before .before .before .args in
     let l = c .before .before .before .loop in
-    bodies-refused (now (c .before .before .before .before .before .before .before .args .words)) (c .before .body .result) (l .i) (λ e. miss (1 ∷ 2 ∷ 3 ∷ 4 ∷ 5 ∷ []) 0 tt (rw e at (c .match .keys2))) (omega arith) (l .inv .1) (c .before .body .ensures)
+    bodies-refused (now (a .words)) (c .before .body .result) (l .i) (λ e. miss (1 ∷ 2 ∷ 3 ∷ 4 ∷ 5 ∷ []) 0 tt (rw e at (c .match .keys2))) (omega arith) (l .inv .1) (c .before .body .ensures)
 
 loop-again : tie.Need-loop-again Inv-loop μ-loop
 loop-again c =
@@ -44,9 +46,10 @@ loop-again c =
 
 returns-2 : tie.Need-returns-2 Inv-loop μ-loop
 returns-2 c =
+    let a = c .before .before .before .before .before .args in
     let l = c .before .loop in
-    let e : l .i ≡ count (now (c .before .before .before .before .before .args .words)) = omega arith in
-    bodies-pass (now (c .before .before .before .before .before .args .words)) (rw e at (l .inv .1))
+    let e : l .i ≡ count (now (a .words)) = omega arith in
+    bodies-pass (now (a .words)) (rw e at (l .inv .1))
 
 pub all-bodies-spec : {M : Type 1} → statement M
 all-bodies-spec =

@@ -10,9 +10,12 @@ use Rattle.report.proofs.accepted.Tie as tie
 
 returns : tie.Need-returns
 returns c =
+    let numbered = c .before .before .before .before .before .before .before .before .before .before .before .before .before .before .numbered in
+    let log = c .before .before .before .before .before .before .before .before .before .before .log in
+    let numbered2 = c .before .before .before .before .before .before .numbered2 in
     let a = c .before .before .before .before .before .before .before .before .before .before .before .before .before .before .before .before .before .before .args in
     let w = now (a .words) in
-    c .before .before .numbered3 .ensures ∙ ap (appended (text (familyLines w Counters))) (c .before .before .before .before .before .before .numbered2 .ensures ∙ ap (appended (text (familyLines w Tables))) (c .before .before .before .before .before .before .before .before .before .before .log .ensures ∙ ap (appended (text (logLines w))) (c .before .before .before .before .before .before .before .before .before .before .before .before .before .before .numbered .ensures))) ∙ answer-is w (upTo (now (a .out)) (a .at))
+    c .before .before .numbered3 .ensures ∙ ap (appended (text (familyLines w Counters))) (numbered2 .ensures ∙ ap (appended (text (familyLines w Tables))) (log .ensures ∙ ap (appended (text (logLines w))) (numbered .ensures))) ∙ answer-is w (upTo (now (a .out)) (a .at))
 
 pub accepted-spec : {M : Type 1} → statement M
 accepted-spec =

@@ -8,8 +8,12 @@ use Rattle.report.proofs.refused.Tie as tie
 
 returns : tie.Need-returns
 returns c =
+    let append = c .before .before .before .before .before .before .before .before .before .before .before .before .before .before .before .before .before .before .before .append in
+    let number = c .before .before .before .before .before .before .before .before .before .before .before .before .before .before .before .number in
+    let append2 = c .before .before .before .before .before .before .before .before .before .before .append2 in
+    let number2 = c .before .before .before .before .before .before .number2 in
     let a = c .before .before .before .before .before .before .before .before .before .before .before .before .before .before .before .before .before .before .before .before .before .before .before .args in
-    c .before .before .push .ensures ∙ ap (pushed 10) (c .before .before .before .before .before .before .number2 .ensures ∙ ap (appended (field (a .place))) (c .before .before .before .before .before .before .before .before .before .before .append2 .ensures ∙ ap (appended atName) (c .before .before .before .before .before .before .before .before .before .before .before .before .before .before .before .number .ensures ∙ ap (appended (field (a .number))) (c .before .before .before .before .before .before .before .before .before .before .before .before .before .before .before .before .before .before .before .append .ensures)))) ∙ sym (refused-is (a .number) (a .place) (upTo (now (a .out)) (a .at)))
+    c .before .before .push .ensures ∙ ap (pushed 10) (number2 .ensures ∙ ap (appended (field (a .place))) (append2 .ensures ∙ ap (appended atName) (number .ensures ∙ ap (appended (field (a .number))) (append .ensures)))) ∙ sym (refused-is (a .number) (a .place) (upTo (now (a .out)) (a .at)))
 
 pub refused-spec : {M : Type 1} → statement M
 refused-spec =

@@ -9,13 +9,17 @@ use Rattle.rules.proofs.check_book.Tie as tie
 
 returns : tie.Need-returns
 returns c =
-    let w = now (c .before .before .before .before .before .args .words) in
-    c .verdict .ensures ∙ c .before .before .before .check-rules .ensures ∙ else-stop (rulesRefusal w) (stepsRefusal w) (c .before .before .before .check-rules .result) (c .before .before .before .check-rules .ensures) (sym (c .before .before .is-refusal .ensures) ∙ c .before .if1 .taken)
+    let a = c .before .before .before .before .before .args in
+    let check-rules = c .before .before .before .check-rules in
+    let w = now (a .words) in
+    c .verdict .ensures ∙ check-rules .ensures ∙ else-stop (rulesRefusal w) (stepsRefusal w) (check-rules .result) (check-rules .ensures) (sym (c .before .before .is-refusal .ensures) ∙ c .before .if1 .taken)
 
 returns-2 : tie.Need-returns-2
 returns-2 c =
-    let w = now (c .before .before .before .before .before .before .args .words) in
-    c .verdict2 .ensures ∙ c .before .fit-steps .ensures ∙ else-on (rulesRefusal w) (stepsRefusal w) (c .before .before .before .before .check-rules .result) (c .before .before .before .before .check-rules .ensures) (sym (c .before .before .before .is-refusal .ensures) ∙ c .before .before .if1 .left)
+    let a = c .before .before .before .before .before .before .args in
+    let check-rules = c .before .before .before .before .check-rules in
+    let w = now (a .words) in
+    c .verdict2 .ensures ∙ c .before .fit-steps .ensures ∙ else-on (rulesRefusal w) (stepsRefusal w) (check-rules .result) (check-rules .ensures) (sym (c .before .before .before .is-refusal .ensures) ∙ c .before .before .if1 .left)
 
 pub check-book-spec : {M : Type 1} → statement M
 check-book-spec =

@@ -49,20 +49,23 @@ first-of-requires c κs =
 
 loop-holds : tie.Need-loop-holds Inv-loop μ-loop
 loop-holds c =
+    let first-of = c .before .before .before .before .before .first-of in
+    let word = c .before .before .before .before .word in
     let a = c .before .before .before .before .before .before .before .args in
     let q = c .before .before .before .before .before .before .before .pre in
     let w = now (a .words) in
     let h = q .0 in
     let r = a .r in
     let l = q .2 in
-    let f : c .before .before .before .before .before .first-of .result ≡ ruleFirst w r = c .before .before .before .before .before .first-of .ensures .0 ∙ ap (λ (b : ℕ). firstOf w (b + r)) (q .1) in
-    (c .before .size2 .ensures .0 ∙ c .before .before .word2 .ensures ∙ ap (λ (x : ℕ). getD w (x + 1) 0) f, search needs, ap (λ (x : ℕ). x + 2) f, rw (c .first .ensures, c .before .before .before .size .ensures .0, c .before .before .before .before .word .ensures, f) (bound-start w r h l), rw (c .first .ensures) (length-first _), λ k m. absurd (omega arith))
+    let f : first-of .result ≡ ruleFirst w r = first-of .ensures .0 ∙ ap (λ (b : ℕ). firstOf w (b + r)) (q .1) in
+    (c .before .size2 .ensures .0 ∙ c .before .before .word2 .ensures ∙ ap (λ (x : ℕ). getD w (x + 1) 0) f, search needs, ap (λ (x : ℕ). x + 2) f, rw (c .first .ensures, c .before .before .before .size .ensures .0, word .ensures, f) (bound-start w r h l), rw (c .first .ensures) (length-first _), λ k m. absurd (omega arith))
 
 instr-at-requires : tie.Need-instr-at-requires Inv-loop μ-loop
 instr-at-requires c κs =
+    let a = c .before .before .before .before .before .before .before .before .before .args in
     let l = c .before .loop in
     let q = c .before .before .before .before .before .before .before .before .before .pre in
-    let x : At (now (c .before .before .before .before .before .before .before .before .before .args .words)) (c .before .before .before .before .before .before .before .before .before .args .r) (l .j) (l .p) (instrAt (now (c .before .before .before .before .before .before .before .before .before .args .words)) (l .p)) = record { readable = q .0; rule = q .2; below = omega (arith, l .inv .0, c .loop-test .taken); place = l .inv .2; is = refl } in
+    let x : At (now (a .words)) (a .r) (l .j) (l .p) (instrAt (now (a .words)) (l .p)) = record { readable = q .0; rule = q .2; below = omega (arith, l .inv .0, c .loop-test .taken); place = l .inv .2; is = refl } in
     small-here x
 
 -- what is known of the instruction, from where it is read on
@@ -73,35 +76,44 @@ here c =
     record { readable = q .0; rule = q .2; below = omega (arith, l .inv .0, c .before .loop-test .taken); place = l .inv .2; is = c .instr-at .ensures }
 
 check-instr-requires : tie.Need-check-instr-requires Inv-loop μ-loop
-check-instr-requires c κs = (c .before .before .before .before .before .before .before .before .before .before .pre .0, stands-here (here c))
+check-instr-requires c κs =
+    let pre = c .before .before .before .before .before .before .before .before .before .before .pre in
+    (pre .0, stands-here (here c))
 
 returns : tie.Need-returns Inv-loop μ-loop
 returns c =
+    let check-instr = c .before .before .check-instr in
     let l = c .before .before .before .before .before .loop in
-    rule-stop (here (c .before .before .before)) (l .bound) (l .inv .3) (c .before .before .check-instr .result) (c .before .before .check-instr .ensures) (sym (c .before .is-refusal .ensures) ∙ c .if1 .taken) (l .inv .5)
+    rule-stop (here (c .before .before .before)) (l .bound) (l .inv .3) (check-instr .result) (check-instr .ensures) (sym (c .before .is-refusal .ensures) ∙ c .if1 .taken) (l .inv .5)
 
 bind-dst-requires : tie.Need-bind-dst-requires Inv-loop μ-loop
-bind-dst-requires c κs = binds-variable (now (c .before .before .before .before .before .before .before .before .before .before .before .before .before .args .words)) (c .before .before .before .instr-at .result) (stands-here (here (c .before .before .before)))
+bind-dst-requires c κs =
+    let a = c .before .before .before .before .before .before .before .before .before .before .before .before .before .args in
+    binds-variable (now (a .words)) (c .before .before .before .instr-at .result) (stands-here (here (c .before .before .before)))
 
 next-requires : tie.Need-next-requires Inv-loop μ-loop
 next-requires c κs = small-here (here (c .before .before .before .before))
 
 loop-again : tie.Need-loop-again Inv-loop μ-loop
 loop-again c =
-    let l = c .before .before .before .before .before .before .before .loop in
-    let x = here (c .before .before .before .before .before) in (
+    let instr-at = c .before .before .before .before .before .instr-at in
+    let before = c .before .before .before .before .before in
+    let check-instr = c .before .before .before .before .check-instr in
+    let l = before .before .before .loop in
+    let x = here (before) in (
       l .inv .0,
       search needs,
       c .next .ensures ∙ next-here x,
       ap has (c .before .bind-dst .ensures) ∙ bound-here x (l .bound) (l .inv .3) (l .inv .4),
-      rw (c .before .bind-dst .ensures) (length-binding (bindsOf (c .before .before .before .before .before .instr-at .result)) (l .bound) (l .inv .4)),
-      below-more _ _ (l .inv .5) (rule-on x (l .bound) (l .inv .3) (c .before .before .before .before .check-instr .result) (c .before .before .before .before .check-instr .ensures) (sym (c .before .before .before .is-refusal .ensures) ∙ c .before .before .if1 .left)),
+      rw (c .before .bind-dst .ensures) (length-binding (bindsOf (instr-at .result)) (l .bound) (l .inv .4)),
+      below-more _ _ (l .inv .5) (rule-on x (l .bound) (l .inv .3) (check-instr .result) (check-instr .ensures) (sym (c .before .before .before .is-refusal .ensures) ∙ c .before .before .if1 .left)),
     )
 
 returns-2 : tie.Need-returns-2 Inv-loop μ-loop
 returns-2 c =
-    let w = now (c .before .before .before .before .before .before .before .before .before .args .words) in
-    let r = c .before .before .before .before .before .before .before .before .before .args .r in
+    let a2 = c .before .before .before .before .before .before .before .before .before .args in
+    let w = now (a2 .words) in
+    let r = a2 .r in
     let a = c .before .loop in
     let e : a .j ≡ getD w (ruleFirst w r + 1) 0 = omega (arith, a .inv .0, a .inv .1, c .loop-test .left) in
     rule-end w r (rw e at (a .inv .5))

@@ -28,24 +28,29 @@ loop-holds c =
 
 check-rule-requires : tie.Need-check-rule-requires Inv-loop μ-loop
 check-rule-requires c κs =
+    let pre = c .before .before .before .before .before .before .before .pre in
     let a = c .before .loop in
-    (c .before .before .before .before .before .before .before .pre, a .inv .0, omega (arith, a .inv .1, c .loop-test .taken))
+    (pre, a .inv .0, omega (arith, a .inv .1, c .loop-test .taken))
 
 returns : tie.Need-returns Inv-loop μ-loop
 returns c =
+    let a2 = c .before .before .before .before .before .before .before .before .before .before .args in
+    let check-rule = c .before .before .check-rule in
     let a = c .before .before .before .before .loop in
-    rules-stop (now (c .before .before .before .before .before .before .before .before .before .before .args .words)) (a .r) (c .before .before .check-rule .result) (omega (arith, a .inv .1, c .before .before .before .loop-test .taken)) (a .inv .3) (sym (c .before .is-refusal .ensures) ∙ c .if1 .taken) (c .before .before .check-rule .ensures)
+    rules-stop (now (a2 .words)) (a .r) (check-rule .result) (omega (arith, a .inv .1, c .before .before .before .loop-test .taken)) (a .inv .3) (sym (c .before .is-refusal .ensures) ∙ c .if1 .taken) (check-rule .ensures)
 
 loop-again : tie.Need-loop-again Inv-loop μ-loop
 loop-again c =
+    let check-rule = c .before .before .check-rule in
     let a = c .before .before .before .before .loop in
-    (a .inv .0, a .inv .1, search needs, below-more _ _ (a .inv .3) (sym (c .before .before .check-rule .ensures) ∙ not-refused (c .before .before .check-rule .result) (sym (c .before .is-refusal .ensures) ∙ c .if1 .left)))
+    (a .inv .0, a .inv .1, search needs, below-more _ _ (a .inv .3) (sym (check-rule .ensures) ∙ not-refused (check-rule .result) (sym (c .before .is-refusal .ensures) ∙ c .if1 .left)))
 
 returns-2 : tie.Need-returns-2 Inv-loop μ-loop
 returns-2 c =
+    let a2 = c .before .before .before .before .before .before .before .args in
     let a = c .before .loop in
-    let e : a .r ≡ ruleCount (now (c .before .before .before .before .before .before .before .args .words)) = omega (arith, a .inv .1, a .inv .2, c .loop-test .left) in
-    rules-end (now (c .before .before .before .before .before .before .before .args .words)) (rw e at (a .inv .3))
+    let e : a .r ≡ ruleCount (now (a2 .words)) = omega (arith, a .inv .1, a .inv .2, c .loop-test .left) in
+    rules-end (now (a2 .words)) (rw e at (a .inv .3))
 
 pub check-rules-spec : {M : Type 1} → statement M
 check-rules-spec =

@@ -24,18 +24,23 @@ sizes-of-requires c κs = few-entries (now (c .before .args .words)) (c .before 
 
 loop-holds : tie.Need-loop-holds Inv-loop μ-loop
 loop-holds c =
-    let z = c .before .before .before .before .sizes-of .ensures in
-    (omega (arith, c .before .before .before .size .ensures .0, c .before .before .size2 .ensures .0, z .tables, z .counters), omega (arith, c .before .before .before .size .ensures .0, c .before .before .size2 .ensures .0, c .before .size3 .ensures .0, z .tables, z .counters, z .rules), c .size4 .ensures .0 ∙ z .steps, search needs, λ i m. absurd (omega arith))
+    let sizes-of = c .before .before .before .before .sizes-of in
+    let size = c .before .before .before .size in
+    let size2 = c .before .before .size2 in
+    let z = sizes-of .ensures in
+    (omega (arith, size .ensures .0, size2 .ensures .0, z .tables, z .counters), omega (arith, size .ensures .0, size2 .ensures .0, c .before .size3 .ensures .0, z .tables, z .counters, z .rules), c .size4 .ensures .0 ∙ z .steps, search needs, λ i m. absurd (omega arith))
 
 step-fits-requires : tie.Need-step-fits-requires Inv-loop μ-loop
 step-fits-requires c κs =
+    let pre = c .before .before .before .before .before .before .before .before .pre in
     let a = c .before .loop in
-    (c .before .before .before .before .before .before .before .before .pre, a .inv .0, a .inv .1, omega (arith, a .inv .2, c .loop-test .taken))
+    (pre, a .inv .0, a .inv .1, omega (arith, a .inv .2, c .loop-test .taken))
 
 returns : tie.Need-returns Inv-loop μ-loop
 returns c =
+    let a2 = c .before .before .before .before .before .before .before .before .before .before .args in
     let a = c .before .before .before .loop in
-    let w = now (c .before .before .before .before .before .before .before .before .before .before .args .words) in
+    let w = now (a2 .words) in
     rw (a .inv .1) (steps-stop w (a .k) (omega (arith, a .inv .2, c .before .before .loop-test .taken)) (a .inv .4) (sym (c .before .step-fits .ensures) ∙ not-true _ (c .if1 .taken)))
 
 loop-again : tie.Need-loop-again Inv-loop μ-loop
@@ -45,9 +50,10 @@ loop-again c =
 
 returns-2 : tie.Need-returns-2 Inv-loop μ-loop
 returns-2 c =
+    let a2 = c .before .before .before .before .before .before .before .before .args in
     let a = c .before .loop in
-    let e : a .k ≡ stepCount (now (c .before .before .before .before .before .before .before .before .args .words)) = omega (arith, a .inv .2, a .inv .3, c .loop-test .left) in
-    steps-end (now (c .before .before .before .before .before .before .before .before .args .words)) (rw e at (a .inv .4))
+    let e : a .k ≡ stepCount (now (a2 .words)) = omega (arith, a .inv .2, a .inv .3, c .loop-test .left) in
+    steps-end (now (a2 .words)) (rw e at (a .inv .4))
 
 pub fit-steps-spec : {M : Type 1} → statement M
 fit-steps-spec =

@@ -21,11 +21,15 @@ few c =
 
 most : (c : tie.After-write-batch) → c .write-batch .result ≤ c .before .before .before .before .before .before .before .before .before .before .before .before .before .before .before .before .before .before .before .before .before .before .before .args .p .at + 8483
 most c =
-    let r = c .before .before .before .before .before .before .before .before .before .before .before .before .run-batch in
-    omega (arith, c .write-batch .ensures .1, batch-most (r .result .bindings .matches) (r .result .bindings .bound .known) (r .last .1 .1 .1 .1 .1 .0) (few (c .before .before .before .before .before .before .before .before .before .before .before .before)) (r .kept .1 .1 .1 .1 .1 .0 ∙ c .before .before .before .before .before .before .before .before .before .before .before .before .before .before .before .before .before .before .before .before .before .before .before .pre .7) (r .result .mask .live))
+    let pre = c .before .before .before .before .before .before .before .before .before .before .before .before .before .before .before .before .before .before .before .before .before .before .before .pre in
+    let before = c .before .before .before .before .before .before .before .before .before .before .before .before in
+    let r = before .run-batch in
+    omega (arith, c .write-batch .ensures .1, batch-most (r .result .bindings .matches) (r .result .bindings .bound .known) (r .last .1 .1 .1 .1 .1 .0) (few (before)) (r .kept .1 .1 .1 .1 .1 .0 ∙ pre .7) (r .result .mask .live))
 
 write-batch-requires : tie.Need-write-batch-requires
-write-batch-requires c κs = let q = c .before .before .before .before .before .before .before .before .before .before .before .before .before .before .before .before .before .before .before .before .before .before .pre in (search needs, few (c .before .before .before .before .before .before .before .before .before .before .before), omega (arith, q .5 .at))
+write-batch-requires c κs =
+    let before = c .before .before .before .before .before .before .before .before .before .before .before in
+    let q = before .before .before .before .before .before .before .before .before .before .before .before .pre in (search needs, few (before), omega (arith, q .5 .at))
 
 advance-requires : tie.Need-advance-requires
 advance-requires c κs = let q = c .before .before .before .before .before .before .before .before .before .before .before .before .before .before .before .before .before .before .before .before .before .before .before .before .before .pre in (q .5 .done, omega (arith, c .before .before .write-batch .ensures .1), omega (arith, most (c .before .before), q .5 .at))
@@ -33,12 +37,14 @@ advance-requires c κs = let q = c .before .before .before .before .before .befo
 returns : tie.Need-returns
 unfolding batchStep
 returns c =
+    let going = c .before .before .before .before .before .before .before .going in
+    let if1 = c .before .before .before .before .before .before .if1 in
     let a = c .before .before .before .before .before .before .before .before .before .before .before .before .before .before .before .before .before .before .before .before .before .before .before .before .before .before .args in
     let r = c .before .before .before .before .before .before .before .before .before .before .before .before .before .before .before .run-batch in
     let b = c .before .before .before .write-batch in
     let A : Ran = record { progress = a .p; bindings = now (a .bindings); log = now (a .log); index = now (a .index); answer = now (a .answer) } in
     let R : Running = record { batch = r .result; bindings = r .last .1 .1 .1 .1 .1 .0; log = r .last .1 .1 .1 .1 .1 .1 .0; index = r .last .1 .1 .1 .1 .1 .1 .1 .0 } in (
-      batch-answered R A (c .advance .result) (b .last .1 .1 .1 .1 .0) (sym (c .before .before .before .before .before .before .before .going .ensures) ∙ c .before .before .before .before .before .before .if1 .taken) (c .advance .ensures ∙ ap (λ (e : ℕ). advanced (r .result .state) e (a .p)) (b .ensures .1)) (b .ensures .0)
+      batch-answered R A (c .advance .result) (b .last .1 .1 .1 .1 .0) (sym (going .ensures) ∙ if1 .taken) (c .advance .ensures ∙ ap (λ (e : ℕ). advanced (r .result .state) e (a .p)) (b .ensures .1)) (b .ensures .0)
           ∙ ap (λ (x : Running). batchTold x A) (r .ensures .0),
       subst (λ (x : Progress). (x .state .used ≤ length (now (a .log))) × (x .done ≤ a .p .done + 1) × (x .at ≤ a .p .at + 8483)) (sym (c .advance .ensures)) (r .ensures .1, omega arith, most (c .before .before .before)),
     )

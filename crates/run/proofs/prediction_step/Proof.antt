@@ -27,14 +27,17 @@ advance-requires c κs = let q = c .before .before .before .before .before .befo
 returns : tie.Need-returns
 unfolding predictionStep
 returns c =
+    let going = c .before .before .before .before .before .before .before .before .before .going in
+    let if1 = c .before .before .before .before .before .before .before .before .if1 in
+    let row-answered2 = c .before .before .before .before .before .row-answered in
     let a = c .before .before .before .before .before .before .before .before .before .before .before .before .before .before .before .before .before .before .before .before .before .before .before .before .before .args in
     let w = now (a .words) in
     let r = c .before .before .before .before .before .before .before .before .before .before .before .before .before .before .before .run-prediction in
     let b = c .before .before .before .write-prediction in
-    let row = c .before .before .before .before .before .row-answered .ensures in
+    let row = row-answered2 .ensures in
     let A : Ran = record { progress = a .p; bindings = now (a .bindings); log = now (a .log); index = now (a .index); answer = now (a .answer) } in
     let G : Gotten = record { got = r .result; log = r .last .1 .1 .1 .1 .1 .0; index = r .last .1 .1 .1 .1 .1 .1 .0 } in (
-      row-answered w (firstOf w (a .i)) G A (c .advance .result) (b .last .1 .1 .1 .0) (sym (c .before .before .before .before .before .before .before .before .before .going .ensures) ∙ c .before .before .before .before .before .before .before .before .if1 .taken)
+      row-answered w (firstOf w (a .i)) G A (c .advance .result) (b .last .1 .1 .1 .0) (sym (going .ensures) ∙ if1 .taken)
           (c .advance .ensures ∙ ap (λ (e : ℕ). advanced (r .result .state) e (a .p)) (b .ensures .1 ∙ ap (λ (l : List ℕ). a .p .at + length (predictionWords (r .result .made) l)) row)) (b .ensures .0 ∙ ap (λ (l : List ℕ). placed (predictionWords (r .result .made) l) (a .p .at) (now (a .answer))) row)
           ∙ ap (λ (x : Gotten). rowTold w (firstOf w (a .i)) x A) (r .ensures .0),
       subst (λ (x : Progress). (x .state .used ≤ length (now (a .log))) × (x .done ≤ a .p .done + 1) × (x .at ≤ a .p .at + 8483)) (sym (c .advance .ensures)) (r .ensures .1, omega arith, omega (arith, most (c .before .before .before))),

@@ -32,14 +32,19 @@ loop-holds c = let q = c .before .before .before .before .before .before .pre in
 
 run-next-requires : tie.Need-run-next-requires Inv-loop μ-loop
 run-next-requires c κs =
+    let a = c .before .before .before .before .before .before .before .before .before .before .before .before .args in
+    let loop-test = c .before .before .before .before .loop-test in
     let q = c .before .before .before .before .before .before .before .before .before .before .before .before .pre in
     let l = c .before .before .before .before .before .loop in
-    let k : l .k < stepCount (now (c .before .before .before .before .before .before .before .before .before .before .before .before .args .words)) = omega (arith, c .before .before .before .before .loop-test .taken, q .4) in
-    let few = few-steps (now (c .before .before .before .before .before .before .before .before .before .before .before .before .args .words)) (q .0) in
+    let k : l .k < stepCount (now (a .words)) = omega (arith, loop-test .taken, q .4) in
+    let few = few-steps (now (a .words)) (q .0) in
     (q .0, q .1, q .2, q .3, omega (arith, l .inv .6), record { done = omega (arith, l .inv .6); at = omega (arith, l .inv .7) }, record { used = omega (arith, l .inv .5, l .inv .2); short = omega (arith, q .7 .short, l .inv .2); slots = l .inv .3 ∙ q .7 .slots }, l .inv .1 ∙ q .8)
 
 add-k : tie.Need-add-k Inv-loop μ-loop
-add-k c = omega (arith, c .before .before .before .before .before .before .before .before .before .before .before .before .before .loop-test .taken, c .before .before .before .before .before .before .before .before .before .before .before .before .before .before .before .before .before .before .before .before .before .good)
+add-k c =
+    let good = c .before .before .before .before .before .before .before .before .before .before .before .before .before .before .before .before .before .before .before .before .before .good in
+    let loop-test = c .before .before .before .before .before .before .before .before .before .before .before .before .before .loop-test in
+    omega (arith, loop-test .taken, good)
 
 loop-again : tie.Need-loop-again Inv-loop μ-loop
 loop-again c =
@@ -60,10 +65,11 @@ loop-again c =
 returns : tie.Need-returns Inv-loop μ-loop
 unfolding ranSteps
 returns c =
+    let a = c .before .before .before .before .before .before .before .before .args in
     let l = c .before .loop in
     let q = c .before .before .before .before .before .before .before .before .pre in
-    let e : l .k ≡ c .before .before .before .before .before .before .before .before .args .steps = omega (arith, l .inv .0, c .loop-test .left) in
-    let few = few-steps (now (c .before .before .before .before .before .before .before .before .args .words)) (q .0) in
+    let e : l .k ≡ a .steps = omega (arith, l .inv .0, c .loop-test .left) in
+    let few = few-steps (now (a .words)) (q .0) in
     (rw (← e) (l .inv .8), (l .inv .5, omega (arith, l .inv .6, q .4), omega (arith, l .inv .7, q .4)))
 
 pub run-by-spec : {M : Type 1} → statement M

@@ -11,14 +11,17 @@ use Rattle.run.proofs.run_indexed.Tie as tie
 
 build-all-requires : tie.Need-build-all-requires
 build-all-requires c κs =
-    let w = now (c .before .before .before .before .before .before .args .words) in
+    let a = c .before .before .before .before .before .before .args in
+    let w = now (a .words) in
     let q = c .before .before .before .before .before .before .pre in
     (rw (q .1) (few-tables w (q .0)), λ t l. table-stands w (q .0) t (omega (arith, l, q .1)), q .2, refl)
 
 run-by-requires : tie.Need-run-by-requires
 run-by-requires c κs =
+    let a = c .before .before .before .before .before .before .before .before .before .before .before .before .before .args in
+    let build-all = c .before .before .before .before .before .before .build-all in
     let q = c .before .before .before .before .before .before .before .before .before .before .before .before .before .pre in
-    (q .0, inr (rw (q .1) at (q .2), c .before .before .before .before .before .before .build-all .ensures ∙ ap (bookIndexed (now (c .before .before .before .before .before .before .before .before .before .before .before .before .before .args .words))) (q .1)), q .3, q .4, q .5, q .6, q .7, q .8, q .9)
+    (q .0, inr (rw (q .1) at (q .2), build-all .ensures ∙ ap (bookIndexed (now (a .words))) (q .1)), q .3, q .4, q .5, q .6, q .7, q .8, q .9)
 
 pub run-indexed-spec : {M : Type 1} → statement M
 run-indexed-spec =

@@ -30,31 +30,45 @@ kind-of-requires c κs =
 
 batch-step-requires : tie.Need-batch-step-requires
 batch-step-requires c κs =
+    let kind-of = c .before .before .before .before .before .kind-of in
+    let if2 = c .before .before .before .before .if2 in
     let a = c .before .before .before .before .before .before .before .before .before .before .before .before .before .before .before .before .args in
     let q = c .before .before .before .before .before .before .before .before .before .before .before .before .before .before .before .before .pre in
-    (q .0, q .1, q .2, here (now (a .words)) (a .first) (a .p .done) (q .3) (q .4), sym (c .before .before .before .before .before .kind-of .ensures) ∙ c .before .before .before .before .if2 .taken, q .5, q .6, q .7)
+    (q .0, q .1, q .2, here (now (a .words)) (a .first) (a .p .done) (q .3) (q .4), sym (kind-of .ensures) ∙ if2 .taken, q .5, q .6, q .7)
 
 returns : tie.Need-returns
 returns c =
+    let going = c .before .before .before .before .before .before .before .before .before .before .before .before .before .before .before .before .before .going in
+    let if1 = c .before .before .before .before .before .before .before .before .before .before .before .before .before .before .before .before .if1 in
+    let kind-of = c .before .before .before .before .before .before .before .before .before .before .before .before .before .before .kind-of in
+    let if2 = c .before .before .before .before .before .before .before .before .before .before .before .before .before .if2 in
+    let batch-step = c .before .before .before .before .before .before .before .before .batch-step in
     let a = c .before .before .before .before .before .before .before .before .before .before .before .before .before .before .before .before .before .before .before .before .before .before .before .before .before .args in
     let q = c .before .before .before .before .before .before .before .before .before .before .before .before .before .before .before .before .before .before .before .before .before .before .before .before .before .pre in
     let A : Ran = record { progress = a .p; bindings = now (a .bindings); log = now (a .log); index = now (a .index); answer = now (a .answer) } in
-    (c .before .before .before .before .before .before .before .before .batch-step .ensures .0 ∙ next-batch (now (a .words)) A (a .first + a .p .done) (sym (c .before .before .before .before .before .before .before .before .before .before .before .before .before .before .before .before .before .going .ensures) ∙ c .before .before .before .before .before .before .before .before .before .before .before .before .before .before .before .before .if1 .taken) (ap (λ (f : ℕ). f + a .p .done) (q .3)) (sym (c .before .before .before .before .before .before .before .before .before .before .before .before .before .before .kind-of .ensures) ∙ c .before .before .before .before .before .before .before .before .before .before .before .before .before .if2 .taken), c .before .before .before .before .before .before .before .before .batch-step .ensures .1)
+    (batch-step .ensures .0 ∙ next-batch (now (a .words)) A (a .first + a .p .done) (sym (going .ensures) ∙ if1 .taken) (ap (λ (f : ℕ). f + a .p .done) (q .3)) (sym (kind-of .ensures) ∙ if2 .taken), batch-step .ensures .1)
 
 prediction-step-requires : tie.Need-prediction-step-requires
 prediction-step-requires c κs =
+    let kind-of = c .before .before .before .before .before .kind-of in
+    let if2 = c .before .before .before .before .if2 in
     let a = c .before .before .before .before .before .before .before .before .before .before .before .before .before .before .before .before .args in
     let q = c .before .before .before .before .before .before .before .before .before .before .before .before .before .before .before .before .pre in
     let s = here (now (a .words)) (a .first) (a .p .done) (q .3) (q .4) in
-    (q .0, q .1, s, not-batch (q .0) s (λ e. c .before .before .before .before .if2 .left (c .before .before .before .before .before .kind-of .ensures ∙ e)), q .5, q .6)
+    (q .0, q .1, s, not-batch (q .0) s (λ e. if2 .left (kind-of .ensures ∙ e)), q .5, q .6)
 
 returns-2 : tie.Need-returns-2
 returns-2 c =
+    let going = c .before .before .before .before .before .before .before .before .before .before .before .before .before .before .before .going in
+    let if1 = c .before .before .before .before .before .before .before .before .before .before .before .before .before .before .if1 in
+    let kind-of = c .before .before .before .before .before .before .before .before .before .before .before .before .kind-of in
+    let if2 = c .before .before .before .before .before .before .before .before .before .before .before .if2 in
+    let prediction-step = c .before .before .before .before .before .before .prediction-step in
     let a = c .before .before .before .before .before .before .before .before .before .before .before .before .before .before .before .before .before .before .before .before .before .before .before .args in
     let q = c .before .before .before .before .before .before .before .before .before .before .before .before .before .before .before .before .before .before .before .before .before .before .before .pre in
     let s = here (now (a .words)) (a .first) (a .p .done) (q .3) (q .4) in
     let A : Ran = record { progress = a .p; bindings = now (a .bindings); log = now (a .log); index = now (a .index); answer = now (a .answer) } in
-    (c .before .before .before .before .before .before .prediction-step .ensures .0 ∙ next-prediction (now (a .words)) A (a .first + a .p .done) (sym (c .before .before .before .before .before .before .before .before .before .before .before .before .before .before .before .going .ensures) ∙ c .before .before .before .before .before .before .before .before .before .before .before .before .before .before .if1 .taken) (ap (λ (f : ℕ). f + a .p .done) (q .3)) (not-batch (q .0) s (λ e. c .before .before .before .before .before .before .before .before .before .before .before .if2 .left (c .before .before .before .before .before .before .before .before .before .before .before .before .kind-of .ensures ∙ e))), c .before .before .before .before .before .before .prediction-step .ensures .1)
+    (prediction-step .ensures .0 ∙ next-prediction (now (a .words)) A (a .first + a .p .done) (sym (going .ensures) ∙ if1 .taken) (ap (λ (f : ℕ). f + a .p .done) (q .3)) (not-batch (q .0) s (λ e. if2 .left (kind-of .ensures ∙ e))), prediction-step .ensures .1)
 
 returns-3 : tie.Need-returns-3
 returns-3 c =

@@ -10,14 +10,18 @@ use Rattle.run.proofs.run_steps.Tie as tie
 
 rows-before-requires : tie.Need-rows-before-requires
 rows-before-requires c κs =
+    let a = c .before .before .before .before .before .args in
     let q = c .before .before .before .before .before .pre in
-    omega (arith, q .1, few-tables (now (c .before .before .before .before .before .args .words)) (q .0))
+    omega (arith, q .1, few-tables (now (a .words)) (q .0))
 
 run-indexed-requires : tie.Need-run-indexed-requires
 run-indexed-requires c κs =
+    let rows-before = c .before .before .before .before .before .before .rows-before in
+    let serves = c .before .before .before .before .before .serves in
+    let if1 = c .before .before .before .before .if1 in
     let q = c .before .before .before .before .before .before .before .before .before .before .before .before .pre in
-    let few = serves-few (c .before .before .before .before .before .before .rows-before .result) (sym (c .before .before .before .before .before .serves .ensures) ∙ c .before .before .before .before .if1 .taken) in
-    (q .0, q .1, rw (c .before .before .before .before .before .before .rows-before .ensures) at few, q .2, q .3, q .4, q .5, q .6, q .7, q .8)
+    let few = serves-few (rows-before .result) (sym (serves .ensures) ∙ if1 .taken) in
+    (q .0, q .1, rw (rows-before .ensures) at few, q .2, q .3, q .4, q .5, q .6, q .7, q .8)
 
 run-by-requires : tie.Need-run-by-requires
 run-by-requires c κs =

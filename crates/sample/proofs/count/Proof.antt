@@ -13,13 +13,19 @@ abbrev μ-loop : tie.MeasureT-loop
 μ-loop sample n end right₀ p₀ k₀ right p k = n - k
 
 size-at-requires : tie.Need-size-at-requires Inv-loop μ-loop
-size-at-requires c κs = omega (arith, ltb-true (c .before .before .loop .p) _ (c .if1 .taken), c .before .before .before .before .pre)
+size-at-requires c κs =
+    let pre = c .before .before .before .before .pre in
+    omega (arith, ltb-true (c .before .before .loop .p) _ (c .if1 .taken), pre)
 
 add-next : tie.Need-add-next Inv-loop μ-loop
-add-next c = record { fits = omega (arith, c .size-at .ensures, ltb-true (c .before .before .before .loop .p) _ (c .before .if1 .taken), c .before .before .before .before .before .pre) }
+add-next c =
+    let pre = c .before .before .before .before .before .pre in
+    record { fits = omega (arith, c .size-at .ensures, ltb-true (c .before .before .before .loop .p) _ (c .before .if1 .taken), pre) }
 
 replay-requires : tie.Need-replay-requires Inv-loop μ-loop
-replay-requires c κs = omega (arith, ltb-true (c .before .before .before .loop .p) _ (c .before .if1 .taken), c .before .before .before .before .before .pre)
+replay-requires c κs =
+    let pre = c .before .before .before .before .before .pre in
+    omega (arith, ltb-true (c .before .before .before .loop .p) _ (c .before .if1 .taken), pre)
 
 loop-again : tie.Need-loop-again Inv-loop μ-loop
 loop-again c = ⊎-elim (λ w. omega arith) (λ w. omega arith) (c .if2 .came)

@@ -7,8 +7,9 @@ use Rattle.sample.proofs.main.Tie as tie
 
 print-requires : tie.Need-print-requires
 print-requires c κs =
-    let short : c .before .before .before .read-full .result ≤ 524288 = omega (arith, c .before .if1 .taken) in
-    subst (λ (n : ℕ). n ≤ 524288) (c .before .before .before .read-full .ensures .1) short
+    let read-full = c .before .before .before .read-full in
+    let short : read-full .result ≤ 524288 = omega (arith, c .before .if1 .taken) in
+    subst (λ (n : ℕ). n ≤ 524288) (read-full .ensures .1) short
 
 pub main-spec : {M : Type 1} → statement M
 main-spec =

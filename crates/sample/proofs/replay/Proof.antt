@@ -11,22 +11,34 @@ lent-length : (n : ℕ) → n ≤ 20480 → length {A = ℕ} (take n (replicate 
 lent-length n le = length-take-le {A = ℕ} n (replicate 20480 1) (subst (λ (k : ℕ). n ≤ k) (sym (length-replicate {A = ℕ} 20480 1)) le)
 
 slice-aggregate-run-at : tie.Need-slice-aggregate-run-at
-slice-aggregate-run-at c = sym (lent-length (c .before .before .before .before .before .lent .result) (c .before .before .before .before .before .lent .ensures))
+slice-aggregate-run-at c =
+    let lent = c .before .before .before .before .before .lent in
+    sym (lent-length (lent .result) (lent .ensures))
 
 slice-aggregate-run-at-2 : tie.Need-slice-aggregate-run-at-2
-slice-aggregate-run-at-2 c = sym (lent-length (c .before .before .before .before .before .lent2 .result) (c .before .before .before .before .before .lent2 .ensures))
+slice-aggregate-run-at-2 c =
+    let lent2 = c .before .before .before .before .before .lent2 in
+    sym (lent-length (lent2 .result) (lent2 .ensures))
 
 slice-aggregate-run-at-3 : tie.Need-slice-aggregate-run-at-3
-slice-aggregate-run-at-3 c = sym (lent-length (c .before .before .before .before .before .lent3 .result) (c .before .before .before .before .before .lent3 .ensures))
+slice-aggregate-run-at-3 c =
+    let lent3 = c .before .before .before .before .before .lent3 in
+    sym (lent-length (lent3 .result) (lent3 .ensures))
 
 slice-aggregate-run-at-4 : tie.Need-slice-aggregate-run-at-4
-slice-aggregate-run-at-4 c = sym (lent-length (c .before .before .before .before .before .lent4 .result) (c .before .before .before .before .before .lent4 .ensures))
+slice-aggregate-run-at-4 c =
+    let lent4 = c .before .before .before .before .before .lent4 in
+    sym (lent-length (lent4 .result) (lent4 .ensures))
 
 slice-aggregate-run-at-5 : tie.Need-slice-aggregate-run-at-5
-slice-aggregate-run-at-5 c = sym (lent-length (c .before .before .before .before .before .lent5 .result) (c .before .before .before .before .before .lent5 .ensures))
+slice-aggregate-run-at-5 c =
+    let lent5 = c .before .before .before .before .before .lent5 in
+    sym (lent-length (lent5 .result) (lent5 .ensures))
 
 run-at-requires : tie.Need-run-at-requires
-run-at-requires c κs = let n = lent-length (c .before .before .before .before .before .lent5 .result) (c .before .before .before .before .before .lent5 .ensures) in (search needs, subst (λ (k : ℕ). k ≤ 20480) (sym n) (c .before .before .before .before .before .lent5 .ensures))
+run-at-requires c κs =
+    let lent5 = c .before .before .before .before .before .lent5 in
+    let n = lent-length (lent5 .result) (lent5 .ensures) in (search needs, subst (λ (k : ℕ). k ≤ 20480) (sym n) (lent5 .ensures))
 
 pub replay-spec : {M : Type 1} → statement M
 replay-spec =

@@ -10,7 +10,9 @@ slice-aggregate-same-words : tie.Need-slice-aggregate-same-words
 slice-aggregate-same-words c = sym (length-take-le _ _ (omega arith))
 
 same-words-requires : tie.Need-same-words-requires
-same-words-requires c κs = let n = length-take-le (c .before .before .before .before .args .n) (now (c .before .before .before .before .args .answer)) (omega arith) in (search needs, omega (arith, n))
+same-words-requires c κs =
+    let a = c .before .before .before .before .args in
+    let n = length-take-le (a .n) (now (a .answer)) (omega arith) in (search needs, omega (arith, n))
 
 pub same-answer-spec : {M : Type 1} → statement M
 same-answer-spec =

@@ -19,7 +19,9 @@ returns : tie.Need-returns Inv-loop μ-loop
 returns c told = absurd (false≢true told)
 
 loop-again : tie.Need-loop-again Inv-loop μ-loop
-loop-again c = (search needs, below-more _ _ (c .before .before .before .before .before .loop .inv .1) (sym (c .before .before .before .word .ensures .0) ∙ c .if1 .left ∙ c .before .size .ensures .0))
+loop-again c =
+    let l = c .before .before .before .before .before .loop in
+    (search needs, below-more _ _ (l .inv .1) (sym (c .before .before .before .word .ensures .0) ∙ c .if1 .left ∙ c .before .size .ensures .0))
 
 returns-2 : tie.Need-returns-2 Inv-loop μ-loop
 returns-2 c told i h = c .before .loop .inv .1 i (omega arith)

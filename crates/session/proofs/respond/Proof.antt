@@ -7,10 +7,12 @@ use Rattle.session.proofs.respond.Tie as tie
 
 returns : tie.Need-returns
 returns c =
+    let pre = c .before .before .before .before .before .before .before .before .before .before .before .before .before .before .before .before .before .before .pre in
+    let shared-slice-known = c .before .before .before .before .before .before .before .before .before .before .before .before .before .before .before .before .before .shared-slice-known in
     let a = c .before .before .before .before .before .before .before .before .before .before .before .before .before .before .before .before .before .before .args in
     let r = c .before .before .before .before .before .before .before .before .before .before .run in
     let l = c .before .before .lines in
-    let w = lines-whole (now (a .book)) (λ i. omega (arith, c .before .before .before .before .before .before .before .before .before .before .before .before .before .before .before .before .before .shared-slice-known .given i)) (r .result) (r .last .1 .1 .1 .1 .1 .0) (l .ensures .1) (r .ensures .0) (r .ensures .1 .0) (now (a .out)) _ (l .result) (c .before .before .before .before .before .before .before .before .before .before .before .before .before .before .before .before .before .before .pre) (l .ensures .0) in
+    let w = lines-whole (now (a .book)) (λ i. omega (arith, shared-slice-known .given i)) (r .result) (r .last .1 .1 .1 .1 .1 .0) (l .ensures .1) (r .ensures .0) (r .ensures .1 .0) (now (a .out)) _ (l .result) (pre) (l .ensures .0) in
     (w .0, (w .1, w .2))
 
 pub respond-spec : {M : Type 1} → statement M

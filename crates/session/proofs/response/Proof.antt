@@ -13,8 +13,9 @@ front-requires c κs = search needs
 
 returns : tie.Need-returns
 returns c =
-    let r = c .before .before .before .before .respond .ensures in
-    c .front .ensures ∙ ap (take (c .before .before .before .before .respond .result)) (r .0) ∙ take-at _ _ _ (sym (r .1 .0))
+    let respond = c .before .before .before .before .respond in
+    let r = respond .ensures in
+    c .front .ensures ∙ ap (take (respond .result)) (r .0) ∙ take-at _ _ _ (sym (r .1 .0))
 
 pub response-spec : {M : Type 1} → statement M
 response-spec = tie.close (tie.spec respond-requires front-requires returns)

@@ -14,12 +14,17 @@ key-asked-requires c κs = let q = c .before .before .before .before .before .be
 
 row-of-requires : tie.Need-row-of-requires
 row-of-requires c κs =
+    let first-of = c .before .before .before .before .before .first-of in
+    let word = c .before .before .before .before .word in
     let q = c .before .before .before .before .before .before .before .before .before .before .pre in
-    rw (c .before .before .before .of .ensures, c .before .before .before .before .word .ensures, c .before .before .before .before .before .first-of .ensures .0) (table-here (q .0) (q .2) (q .3) (q .1))
+    rw (c .before .before .before .of .ensures, word .ensures, first-of .ensures .0) (table-here (q .0) (q .2) (q .3) (q .1))
 
 returns : tie.Need-returns
 unfolding rowAnswered
-returns c = c .row-of .ensures ∙ rw (c .before .before .before .before .of .ensures, c .before .before .before .key-asked .ensures, c .before .before .before .before .before .word .ensures, c .before .before .before .before .before .before .first-of .ensures .0)
+returns c =
+    let first-of = c .before .before .before .before .before .before .first-of in
+    let word = c .before .before .before .before .before .word in
+    c .row-of .ensures ∙ rw (c .before .before .before .before .of .ensures, c .before .before .before .key-asked .ensures, word .ensures, first-of .ensures .0)
 
 pub row-answered-spec : {M : Type 1} → statement M
 row-answered-spec =

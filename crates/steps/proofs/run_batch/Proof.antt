@@ -18,36 +18,61 @@ first-of-requires c κs =
 
 load-requires : tie.Need-load-requires
 load-requires c κs =
+    let first-of = c .before .before .before .before .before .before .before .before .before .before .before .first-of in
+    let word2 = c .before .before .before .before .before .before .before .before .word2 in
+    let size2 = c .before .before .before .before .before .before .before .size2 in
+    let word3 = c .before .before .before .before .before .before .word3 in
     let q = c .before .before .before .before .before .before .before .before .before .before .before .before .before .before .before .before .before .pre in
-    let first = c .before .before .before .before .before .before .before .before .before .before .before .first-of .ensures .0 in
-    let v = c .before .before .before .before .before .before .word3 .ensures in
-    let n = c .before .before .before .before .before .before .before .size2 .ensures .0 ∙ c .before .before .before .before .before .before .before .before .word2 .ensures in
+    let first = first-of .ensures .0 in
+    let v = word3 .ensures in
+    let n = size2 .ensures .0 ∙ word2 .ensures in
     (rw (v, n, first) (columns-within (q .0) (q .3) (q .4)), rw (v, first) (omega (arith, batch-facts (q .0) (q .3) (q .4) .columns, q .6, c .before .before .before .clear .kept)))
 
 run-instrs-requires : tie.Need-run-instrs-requires
 run-instrs-requires c κs =
+    let first-of = c .before .before .before .before .before .before .before .before .before .before .before .before .before .before .before .before .before .before .before .before .first-of in
+    let word = c .before .before .before .before .before .before .before .before .before .before .before .before .before .before .before .before .before .before .before .word in
+    let size = c .before .before .before .before .before .before .before .before .before .before .before .before .before .before .before .before .before .before .size in
+    let clear = c .before .before .before .before .before .before .before .before .before .before .before .before .clear in
+    let load = c .before .before .before .before .before .before .before .before .load in
     let q = c .before .before .before .before .before .before .before .before .before .before .before .before .before .before .before .before .before .before .before .before .before .before .before .before .before .before .pre in
-    let first = c .before .before .before .before .before .before .before .before .before .before .before .before .before .before .before .before .before .before .before .before .first-of .ensures .0 in
-    let rule = c .before .before .before .before .before .before .before .before .before .before .before .before .before .before .before .before .before .before .size .ensures .0 ∙ c .before .before .before .before .before .before .before .before .before .before .before .before .before .before .before .before .before .before .before .word .ensures in
-    (q .0, q .1, q .2, rw (rule, first) (batch-facts (q .0) (q .3) (q .4) .rule), q .5, c .before .before .before .before .before .before .before .before .load .kept .1 .1 .1 .1 .0 ∙ c .before .before .before .before .before .before .before .before .before .before .before .before .clear .kept .0 ∙ q .6)
+    let first = first-of .ensures .0 in
+    let rule = size .ensures .0 ∙ word .ensures in
+    (q .0, q .1, q .2, rw (rule, first) (batch-facts (q .0) (q .3) (q .4) .rule), q .5, load .kept .1 .1 .1 .1 .0 ∙ clear .kept .0 ∙ q .6)
 
 same-length : tie.Need-same-length
-same-length c = c .before .before .before .before .before .before .run-instrs .kept .1 .1 .1 .1 .1 .0 ∙ c .before .before .before .before .before .before .before .before .before .before .before .before .before .before .before .load .kept .1 .1 .1 .1 .0 ∙ c .before .before .before .before .before .before .before .before .before .before .before .before .before .before .before .before .before .before .before .clear .kept .0
+same-length c =
+    let clear = c .before .before .before .before .before .before .before .before .before .before .before .before .before .before .before .before .before .before .before .clear in
+    let load = c .before .before .before .before .before .before .before .before .before .before .before .before .before .before .before .load in
+    let run-instrs = c .before .before .before .before .before .before .run-instrs in
+    run-instrs .kept .1 .1 .1 .1 .1 .0 ∙ load .kept .1 .1 .1 .1 .0 ∙ clear .kept .0
 
 returns : tie.Need-returns
 unfolding ranBatch
 returns c =
+    let first-of = c .before .before .before .before .before .before .before .before .before .before .before .before .before .before .before .before .before .before .before .before .before .before .before .before .before .before .before .first-of in
+    let word = c .before .before .before .before .before .before .before .before .before .before .before .before .before .before .before .before .before .before .before .before .before .before .before .before .before .before .word in
+    let size2 = c .before .before .before .before .before .before .before .before .before .before .before .before .before .before .before .before .before .before .before .before .before .before .before .before .before .size in
+    let word2 = c .before .before .before .before .before .before .before .before .before .before .before .before .before .before .before .before .before .before .before .before .before .before .before .before .word2 in
+    let size22 = c .before .before .before .before .before .before .before .before .before .before .before .before .before .before .before .before .before .before .before .before .before .before .before .size2 in
+    let word3 = c .before .before .before .before .before .before .before .before .before .before .before .before .before .before .before .before .before .before .before .before .before .before .word3 in
+    let lane-count = c .before .before .before .before .before .before .before .before .before .before .before .before .before .before .before .before .before .before .before .before .before .lane-count in
+    let clear = c .before .before .before .before .before .before .before .before .before .before .before .before .before .before .before .before .before .before .before .clear in
+    let load = c .before .before .before .before .before .before .before .before .before .before .before .before .before .before .before .load in
+    let size3 = c .before .before .before .before .before .before .before .before .before .before .before .before .size3 in
+    let first2 = c .before .before .before .before .before .before .before .before .before .before .before .first in
+    let new = c .before .before .before .before .before .before .before .before .before .before .new in
     let q = c .before .before .before .before .before .before .before .before .before .before .before .before .before .before .before .before .before .before .before .before .before .before .before .before .before .before .before .before .before .before .before .before .before .pre in
-    let first = c .before .before .before .before .before .before .before .before .before .before .before .before .before .before .before .before .before .before .before .before .before .before .before .before .before .before .before .first-of .ensures .0 in
-    let rule = c .before .before .before .before .before .before .before .before .before .before .before .before .before .before .before .before .before .before .before .before .before .before .before .before .before .size .ensures .0 ∙ c .before .before .before .before .before .before .before .before .before .before .before .before .before .before .before .before .before .before .before .before .before .before .before .before .before .before .word .ensures in
-    let n = c .before .before .before .before .before .before .before .before .before .before .before .before .before .before .before .before .before .before .before .before .before .before .before .size2 .ensures .0 ∙ c .before .before .before .before .before .before .before .before .before .before .before .before .before .before .before .before .before .before .before .before .before .before .before .before .word2 .ensures in
-    let v = c .before .before .before .before .before .before .before .before .before .before .before .before .before .before .before .before .before .before .before .before .before .before .word3 .ensures in
-    let lanes = c .before .before .before .before .before .before .before .before .before .before .before .before .before .before .before .before .before .before .before .before .before .lane-count .ensures in
-    let zero = c .before .before .before .before .before .before .before .before .before .before .before .before .before .before .before .before .before .before .before .clear .ensures ∙ ap (λ (n : ℕ). replicate n 0) (q .6) in
-    let columns = c .before .before .before .before .before .before .before .before .before .before .before .before .before .before .before .load .ensures in
-    let mask : c .before .before .before .before .before .before .before .before .before .before .new .result ≡ record { live = firstLanes (c .before .before .before .before .before .before .before .before .before .before .before .before .before .before .before .before .before .before .before .before .before .lane-count .result) } = ap (λ (l : List Bool). record { live = l }) (c .before .before .before .before .before .before .before .before .before .before .new .ensures) in
-    let bound = c .before .before .before .before .before .before .before .before .before .before .before .first .ensures in
-    let size = c .before .before .before .before .before .before .before .before .before .before .before .before .size3 .ensures .0 in
+    let first = first-of .ensures .0 in
+    let rule = size2 .ensures .0 ∙ word .ensures in
+    let n = size22 .ensures .0 ∙ word2 .ensures in
+    let v = word3 .ensures in
+    let lanes = lane-count .ensures in
+    let zero = clear .ensures ∙ ap (λ (n : ℕ). replicate n 0) (q .6) in
+    let columns = load .ensures in
+    let mask : new .result ≡ record { live = firstLanes (lane-count .result) } = ap (λ (l : List Bool). record { live = l }) (new .ensures) in
+    let bound = first2 .ensures in
+    let size = size3 .ensures .0 in
     let r = c .before .before .before .before .before .before .run-instrs in
     (r .ensures .0 ∙ rw (columns, zero, mask, bound, size, lanes, q .2, rule, v, n, first), r .ensures .1)
 

@@ -33,8 +33,11 @@ returns c =
 
 add-at : tie.Need-add-at Inv-loop μ-loop
 add-at c =
-    let i = c .before .before .before .before .before .args .info in
-    omega (arith, row-within (c .before .before .before .loop .i) (i .rows) (i .width) (c .before .before .loop-test .taken), c .before .before .before .before .before .pre, c .before .before .before .before .before .good)
+    let a = c .before .before .before .before .before .args in
+    let pre = c .before .before .before .before .before .pre in
+    let good = c .before .before .before .before .before .good in
+    let i = a .info in
+    omega (arith, row-within (c .before .before .before .loop .i) (i .rows) (i .width) (c .before .before .loop-test .taken), pre, good)
 
 loop-again : tie.Need-loop-again Inv-loop μ-loop
 loop-again c =

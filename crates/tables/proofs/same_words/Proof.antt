@@ -20,11 +20,14 @@ loop-holds c = (search needs, λ j h. absurd (omega arith))
 
 returns : tie.Need-returns Inv-loop μ-loop
 returns c =
+    let l = c .before .before .before .before .loop in
     let a = c .before .before .before .before .before .args in
-    sym (same-not (now (a .rows)) (a .at) (now (a .key)) (a .k) (c .before .before .before .before .loop .i) (c .before .before .before .loop-test .taken) (c .if1 .taken))
+    sym (same-not (now (a .rows)) (a .at) (now (a .key)) (a .k) (l .i) (c .before .before .before .loop-test .taken) (c .if1 .taken))
 
 loop-again : tie.Need-loop-again Inv-loop μ-loop
-loop-again c = (search needs, below-more _ _ (c .before .before .before .before .loop .inv .1) (c .if1 .left))
+loop-again c =
+    let l = c .before .before .before .before .loop in
+    (search needs, below-more _ _ (l .inv .1) (c .if1 .left))
 
 returns-2 : tie.Need-returns-2 Inv-loop μ-loop
 returns-2 c =

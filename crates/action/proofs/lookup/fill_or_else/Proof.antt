@@ -10,7 +10,10 @@ difference-requires : tie.Need-difference-requires
 difference-requires c κs = search needs
 
 fill-requires-2 : tie.Need-fill-requires-2
-fill-requires-2 c κs = (c .before .before .before .before .before .before .before .before .before .before .pre .1, c .before .before .before .before .fill .kept .1 .1 .1 .1 .1 .0 ∙ c .before .before .before .before .before .before .before .before .before .before .pre .2)
+fill-requires-2 c κs =
+    let pre = c .before .before .before .before .before .before .before .before .before .before .pre in
+    let fill = c .before .before .before .before .fill in
+    (pre .1, fill .kept .1 .1 .1 .1 .1 .0 ∙ pre .2)
 
 union-requires : tie.Need-union-requires
 union-requires c κs = search needs
@@ -20,8 +23,10 @@ same-length c = search needs
 
 returns : tie.Need-returns
 returns c =
-    let found = c .before .before .before .before .before .before .before .before .fill .ensures in
-    let missed = c .before .before .before .before .before .difference .ensures in
+    let fill = c .before .before .before .before .before .before .before .before .fill in
+    let difference = c .before .before .before .before .before .difference in
+    let found = fill .ensures in
+    let missed = difference .ensures in
     let served = c .before .before .before .fill2 .ensures in
     (rw (served .1, missed, found .0, found .1), rw (c .union .ensures, served .0, missed, found .0))
 

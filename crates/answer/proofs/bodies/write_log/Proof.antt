@@ -12,8 +12,9 @@ same-length c = c .before .before .write .kept .1 .1 .0 ∙ simp length-set
 
 returns : tie.Need-returns
 returns c =
+    let flag2 = c .before .before .before .before .flag in
     let a = c .before .before .before .before .before .before .before .args in
-    c .before .before .write .ensures .0 ∙ rw (c .before .before .before .before .flag .ensures) (put-cons (flag (a .changed)) (now (a .log)) (now (a .answer)) (a .at))
+    c .before .before .write .ensures .0 ∙ rw (flag2 .ensures) (put-cons (flag (a .changed)) (now (a .log)) (now (a .answer)) (a .at))
 
 pub write-log-spec : {M : Type 1} → statement M
 write-log-spec =

@@ -32,17 +32,20 @@ write-table-requires c κs =
 
 rows-length-requires : tie.Need-rows-length-requires Inv-loop μ-loop
 rows-length-requires c κs =
+    let loop-test = c .before .before .before .before .loop-test in
     let a = c .before .before .before .before .before .before .before .before .before .before .args in
     let l = c .before .before .before .before .before .loop in
     let p = c .before .before .before .before .before .before .before .before .before .before .pre in
-    let h = sum-fits (rowsLength (now (a .words)) (now (a .counts))) (l .t) (a .n) (c .before .before .before .before .loop-test .taken) in
-    (omega (arith, p .0, c .before .before .before .before .loop-test .taken), omega (arith, h, p .1))
+    let h = sum-fits (rowsLength (now (a .words)) (now (a .counts))) (l .t) (a .n) (loop-test .taken) in
+    (omega (arith, p .0, loop-test .taken), omega (arith, h, p .1))
 
 add-from : tie.Need-add-from Inv-loop μ-loop
 add-from c =
+    let pre = c .before .before .before .before .before .before .before .before .before .before .before .pre in
+    let loop-test = c .before .before .before .before .before .loop-test in
     let a = c .before .before .before .before .before .before .before .before .before .before .before .args in
     let l = c .before .before .before .before .before .before .loop in
-    omega (arith, sum-fits (rowsLength (now (a .words)) (now (a .counts))) (l .t) (a .n) (c .before .before .before .before .before .loop-test .taken), c .before .before .before .before .before .before .before .before .before .before .before .pre .1, l .inv .2, c .rows-length .ensures)
+    omega (arith, sum-fits (rowsLength (now (a .words)) (now (a .counts))) (l .t) (a .n) (loop-test .taken), pre .1, l .inv .2, c .rows-length .ensures)
 
 loop-again : tie.Need-loop-again Inv-loop μ-loop
 loop-again c =
@@ -59,8 +62,9 @@ loop-again c =
 
 returns : tie.Need-returns Inv-loop μ-loop
 returns c =
+    let a = c .before .before .before .before .before .before .args in
     let l = c .before .loop in
-    let e : l .t ≡ c .before .before .before .before .before .before .args .n = omega arith in
+    let e : l .t ≡ a .n = omega arith in
     (rw e at (l .inv .4), rw e at (l .inv .3))
 
 pub write-tables-spec : {M : Type 1} → statement M

@@ -21,9 +21,10 @@ loop-holds c = (search needs, sym (sum-none _))
 
 add-s : tie.Need-add-s Inv-loop μ-loop
 add-s c =
+    let pre = c .before .before .before .before .before .before .before .pre in
     let a = c .before .before .before .before .before .before .before .args in
     let l = c .before .before .before .loop in
-    omega (arith, small-entry (now (a .words)) (now (a .counts)) (now (a .lengths)) (a .used) (a .z) (c .before .before .before .before .before .before .before .pre .0) (l .i) (omega (arith, c .before .before .before .before .before .before .before .pre .1, c .before .before .loop-test .taken)), l .inv .1, ap (λ (x : Entry). x .length) (c .before .entry-of .ensures))
+    omega (arith, small-entry (now (a .words)) (now (a .counts)) (now (a .lengths)) (a .used) (a .z) (pre .0) (l .i) (omega (arith, pre .1, c .before .before .loop-test .taken)), l .inv .1, ap (λ (x : Entry). x .length) (c .before .entry-of .ensures))
 
 loop-again : tie.Need-loop-again Inv-loop μ-loop
 loop-again c =
@@ -34,8 +35,9 @@ loop-again c =
 
 returns : tie.Need-returns Inv-loop μ-loop
 returns c =
+    let a = c .before .before .before .before .before .args in
     let l = c .before .loop in
-    let e : l .i ≡ c .before .before .before .before .before .args .n = omega arith in
+    let e : l .i ≡ a .n = omega arith in
     rw e at (l .inv .1)
 
 pub length-of-spec : {M : Type 1} → statement M

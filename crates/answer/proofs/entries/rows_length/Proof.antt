@@ -18,7 +18,9 @@ size-requires c κs = search needs
 
 mul-result : tie.Need-mul-result
 mul-result c =
-    let h : c .before .size .result * c .before .before .before .info-of .result .width ≤ 16384 = rw (c .before .size .ensures .0, c .before .before .word .ensures, c .before .before .before .info-of .ensures) (c .before .before .before .before .before .before .before .pre .1) in
+    let pre = c .before .before .before .before .before .before .before .pre in
+    let info-of = c .before .before .before .info-of in
+    let h : c .before .size .result * info-of .result .width ≤ 16384 = rw (c .before .size .ensures .0, c .before .before .word .ensures, info-of .ensures) (pre .1) in
     omega (arith, h)
 
 returns : tie.Need-returns

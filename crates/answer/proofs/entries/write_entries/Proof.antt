@@ -21,34 +21,44 @@ abbrev μ-loop : tie.MeasureT-loop
 μ-loop words counts lengths used z n start answer₀ first₀ i₀ answer first i = n - i
 
 loop-holds : tie.Need-loop-holds Inv-loop μ-loop
-loop-holds c = (search needs, search needs, omega (arith, sum-none (λ j. entryAt (now (c .before .before .before .before .args .words)) (now (c .before .before .before .before .args .counts)) (now (c .before .before .before .before .args .lengths)) (c .before .before .before .before .args .used) (c .before .before .before .before .args .z) j .length)), put-none _ _ _)
+loop-holds c =
+    let a = c .before .before .before .before .args in
+    (search needs, search needs, omega (arith, sum-none (λ j. entryAt (now (a .words)) (now (a .counts)) (now (a .lengths)) (a .used) (a .z) j .length)), put-none _ _ _)
 
 write-entry-requires : tie.Need-write-entry-requires Inv-loop μ-loop
 write-entry-requires c κs =
+    let pre = c .before .before .before .before .before .before .before .before .pre in
+    let loop-test = c .before .before .loop-test in
     let a = c .before .before .before .before .before .before .before .before .args in
     let l = c .before .before .before .loop in
-    let s = small-entry (now (a .words)) (now (a .counts)) (now (a .lengths)) (a .used) (a .z) (c .before .before .before .before .before .before .before .before .pre .0) (l .i) (omega (arith, c .before .before .before .before .before .before .before .before .pre .1, c .before .before .loop-test .taken)) in
-    (omega (arith, s, ap (λ (x : Entry). x .length) (c .before .entry-of .ensures)), omega (arith, s, l .inv .2, c .before .before .before .before .before .before .before .before .pre .2), omega (arith, l .inv .1, c .before .before .before .before .before .before .before .before .pre .3, c .before .before .loop-test .taken))
+    let s = small-entry (now (a .words)) (now (a .counts)) (now (a .lengths)) (a .used) (a .z) (pre .0) (l .i) (omega (arith, pre .1, loop-test .taken)) in
+    (omega (arith, s, ap (λ (x : Entry). x .length) (c .before .entry-of .ensures)), omega (arith, s, l .inv .2, pre .2), omega (arith, l .inv .1, pre .3, loop-test .taken))
 
 add-first : tie.Need-add-first Inv-loop μ-loop
 add-first c =
+    let pre = c .before .before .before .before .before .before .before .before .before .before .before .before .pre in
+    let loop-test = c .before .before .before .before .before .before .loop-test in
+    let entry-of = c .before .before .before .before .before .entry-of in
     let a = c .before .before .before .before .before .before .before .before .before .before .before .before .args in
     let l = c .before .before .before .before .before .before .before .loop in
-    omega (arith, small-entry (now (a .words)) (now (a .counts)) (now (a .lengths)) (a .used) (a .z) (c .before .before .before .before .before .before .before .before .before .before .before .before .pre .0) (l .i) (omega (arith, c .before .before .before .before .before .before .before .before .before .before .before .before .pre .1, c .before .before .before .before .before .before .loop-test .taken)), l .inv .2, ap (λ (x : Entry). x .length) (c .before .before .before .before .before .entry-of .ensures), c .before .before .before .before .before .before .before .before .before .before .before .before .pre .2)
+    omega (arith, small-entry (now (a .words)) (now (a .counts)) (now (a .lengths)) (a .used) (a .z) (pre .0) (l .i) (omega (arith, pre .1, loop-test .taken)), l .inv .2, ap (λ (x : Entry). x .length) (entry-of .ensures), pre .2)
 
 loop-again : tie.Need-loop-again Inv-loop μ-loop
 loop-again c =
+    let entry-of = c .before .before .before .before .before .entry-of in
+    let write-entry = c .before .before .before .write-entry in
     let a = c .before .before .before .before .before .before .before .before .before .before .before .before .args in
     let l = c .before .before .before .before .before .before .before .loop in
-    let r = c .before .before .before .before .before .entry-of .ensures in
+    let r = entry-of .ensures in
     let f : ℕ → ℕ = λ (j : ℕ). entryAt (now (a .words)) (now (a .counts)) (now (a .lengths)) (a .used) (a .z) j .length in
     let g : ℕ → List ℕ = λ (j : ℕ). entryWords (entryAt (now (a .words)) (now (a .counts)) (now (a .lengths)) (a .used) (a .z) j) (a .start + sum f j) in
-    (search needs, c .before .before .before .write-entry .kept .1 .1 .1 .0 ∙ l .inv .1, omega (arith, sum-turn f (l .i) (sum f (l .i)) _ refl refl, l .inv .2, ap (λ (x : Entry). x .length) r), put-more g 1 (l .i) (now (a .answer)) (l .answer) _ (1 + 3 * l .i) (l .inv .3) (omega (arith, length-entries (entryAt (now (a .words)) (now (a .counts)) (now (a .lengths)) (a .used) (a .z)) (λ j. a .start + sum f j) (l .i))) (c .before .before .before .write-entry .ensures ∙ rw (r, l .inv .2)))
+    (search needs, write-entry .kept .1 .1 .1 .0 ∙ l .inv .1, omega (arith, sum-turn f (l .i) (sum f (l .i)) _ refl refl, l .inv .2, ap (λ (x : Entry). x .length) r), put-more g 1 (l .i) (now (a .answer)) (l .answer) _ (1 + 3 * l .i) (l .inv .3) (omega (arith, length-entries (entryAt (now (a .words)) (now (a .counts)) (now (a .lengths)) (a .used) (a .z)) (λ j. a .start + sum f j) (l .i))) (write-entry .ensures ∙ rw (r, l .inv .2)))
 
 returns : tie.Need-returns Inv-loop μ-loop
 returns c =
+    let a = c .before .before .before .before .before .before .args in
     let l = c .before .loop in
-    let e : l .i ≡ c .before .before .before .before .before .before .args .n = omega arith in
+    let e : l .i ≡ a .n = omega arith in
     rw e at (l .inv .3)
 
 pub write-entries-spec : {M : Type 1} → statement M

@@ -15,7 +15,10 @@ same-length : tie.Need-same-length
 same-length c = search needs
 
 returns : tie.Need-returns
-returns c = (c .before .before .copy .ensures ∙ paste-sets (now (c .before .before .before .before .before .before .args .answer)) (c .before .before .before .before .before .before .args .at) (now (c .before .before .before .before .before .before .args .src)) (c .before .before .before .before .before .before .pre), search needs)
+returns c =
+    let a = c .before .before .before .before .before .before .args in
+    let pre = c .before .before .before .before .before .before .pre in
+    (c .before .before .copy .ensures ∙ paste-sets (now (a .answer)) (a .at) (now (a .src)) (pre), search needs)
 
 pub write-spec : {M : Type 1} → statement M
 write-spec = tie.close (tie.spec copy-requires add-result same-length returns)

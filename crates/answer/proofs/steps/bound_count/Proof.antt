@@ -20,13 +20,15 @@ abbrev μ-loop : tie.MeasureT-loop
 
 add-n : tie.Need-add-n Inv-loop μ-loop
 add-n c =
+    let a = c .before .before .before .before .args in
     let l = c .before .before .before .loop in
-    omega (arith, howMany-le (λ (k : ℕ). getD (c .before .before .before .before .args .t1 .known) k false) (l .v))
+    omega (arith, howMany-le (λ (k : ℕ). getD (a .t1 .known) k false) (l .v))
 
 loop-again : tie.Need-loop-again Inv-loop μ-loop
 loop-again c =
+    let a = c .before .before .before .before .args in
     let l = c .before .before .before .loop in
-    let p : ℕ → Bool = λ (k : ℕ). getD (c .before .before .before .before .args .t1 .known) k false in
+    let p : ℕ → Bool = λ (k : ℕ). getD (a .t1 .known) k false in
     (search needs, iter-more (λ k. when (p k) suc) (l .v) 0 (l .n) _ (l .inv .1) (⊎-elim (λ w. rw (w .0 .taken) (w .1 ∙ rw add-one)) (λ w. rw (w .0 .left) (w .1)) (c .if1 .came)))
 
 returns : tie.Need-returns Inv-loop μ-loop

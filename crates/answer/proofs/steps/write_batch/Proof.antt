@@ -19,19 +19,22 @@ use Rattle.answer.proofs.steps.write_batch.Tie as tie
 -- the body's length, in the code's numbers
 length-is : (c : tie.After-bound-count) → 3 + c .bound-count .result * (1 + c .before .before .before .before .args .kept .matches) + c .before .before .before .before .args .kept .matches ≡ length (batchWords (c .before .before .before .before .args .kept .matches) (c .before .before .before .before .args .kept .bound .known) (now (c .before .before .before .before .args .bindings)) (c .before .before .before .before .args .mask .live))
 length-is c =
+    let pre = c .before .before .before .before .pre in
     let a = c .before .before .before .before .args in
-    rw (c .bound-count .ensures) (sym (length-batch (a .kept .matches) (a .kept .bound .known) (now (a .bindings)) (c .before .before .before .before .pre .1) (c .before .before .before .before .pre .0) (a .mask .live)))
+    rw (c .bound-count .ensures) (sym (length-batch (a .kept .matches) (a .kept .bound .known) (now (a .bindings)) (pre .1) (pre .0) (a .mask .live)))
 
 most : (c : tie.After-bound-count) → 3 + c .bound-count .result * (1 + c .before .before .before .before .args .kept .matches) + c .before .before .before .before .args .kept .matches ≤ 8483
 most c =
+    let pre = c .before .before .before .before .pre in
     let a = c .before .before .before .before .args in
-    rw (length-is c) (batch-most (a .kept .matches) (a .kept .bound .known) (now (a .bindings)) (c .before .before .before .before .pre .1) (c .before .before .before .before .pre .0) (a .mask .live))
+    rw (length-is c) (batch-most (a .kept .matches) (a .kept .bound .known) (now (a .bindings)) (pre .1) (pre .0) (a .mask .live))
 
 -- the columns have room, and a word for each lane past them
 room : (c : tie.Else1) → c .before .before .before .before .before .args .at + 3 + length (runs (λ v. columnWords (now (c .before .before .before .before .before .args .bindings)) (c .before .before .before .before .before .args .kept .matches) (getD (c .before .before .before .before .before .args .kept .bound .known) v false) v) 32) + c .before .before .before .before .before .args .kept .matches ≤ length (now (c .before .before .before .before .before .args .answer))
 room c =
+    let pre = c .before .before .before .before .before .pre in
     let a = c .before .before .before .before .before .args in
-    rw (length-columns (a .kept .matches) (a .kept .bound .known) (now (a .bindings)) (c .before .before .before .before .before .pre .1) (c .before .before .before .before .before .pre .0) 32 (omega arith), ← c .before .bound-count .ensures) (omega (arith, c .if1 .left))
+    rw (length-columns (a .kept .matches) (a .kept .bound .known) (now (a .bindings)) (pre .1) (pre .0) 32 (omega arith), ← c .before .bound-count .ensures) (omega (arith, c .if1 .left))
 
 mul-end : tie.Need-mul-end
 mul-end c = omega (arith, most c)
@@ -48,39 +51,55 @@ returns c =
     (placed-not (batchWords (a .kept .matches) (a .kept .bound .known) (now (a .bindings)) (a .mask .live)) (a .at) (now (a .answer)) (omega (arith, c .if1 .taken, length-is (c .before))), omega (arith, length-is (c .before)))
 
 cast-answer : tie.Need-cast-answer
-cast-answer c = omega (arith, count-most (c .before .before .before .before .before .before .args .mask .live) (search needs), c .count .ensures)
+cast-answer c =
+    let a = c .before .before .before .before .before .before .args in
+    omega (arith, count-most (a .mask .live) (search needs), c .count .ensures)
 
 slice-write-answer-2 : tie.Need-slice-write-answer-2
 slice-write-answer-2 c = simp length-set (omega arith)
 
 cast-answer-3 : tie.Need-cast-answer-3
-cast-answer-3 c = omega (arith, howMany-le (λ (v : ℕ). getD (c .before .before .before .before .before .before .args .kept .bound .known) v false) 32, c .before .before .bound-count .ensures)
+cast-answer-3 c =
+    let a = c .before .before .before .before .before .before .args in
+    omega (arith, howMany-le (λ (v : ℕ). getD (a .kept .bound .known) v false) 32, c .before .before .bound-count .ensures)
 
 slice-write-answer-3 : tie.Need-slice-write-answer-3
 slice-write-answer-3 c = simp length-set (omega arith)
 
 write-columns-requires : tie.Need-write-columns-requires
-write-columns-requires c κs = (c .before .before .before .before .before .before .before .pre .1, c .before .before .before .before .before .before .before .pre .0, simp length-set (le-trans (le-add-right _ (c .before .before .before .before .before .before .before .args .kept .matches)) (room (c .before .before))))
+write-columns-requires c κs =
+    let pre = c .before .before .before .before .before .before .before .pre in
+    let a = c .before .before .before .before .before .before .before .args in
+    (pre .1, pre .0, simp length-set (le-trans (le-add-right _ (a .kept .matches)) (room (c .before .before))))
 
 write-live-requires : tie.Need-write-live-requires
 write-live-requires c κs =
-    let a = c .before .before .before .before .before .before .before .before .before .before .before .args in
+    let pre = c .before .before .before .before .before .before .before .before .before .before .before .pre in
+    let before = c .before .before .before .before .before .before in
+    let a = before .before .before .before .before .before .args in
     let w = c .before .before .before .write-columns in
     let h : length (w .last .1 .1 .1 .1 .0) ≡ length (now (a .answer)) = w .kept .1 .1 .1 .1 .0 ∙ simp length-set in
-    (c .before .before .before .before .before .before .before .before .before .before .before .pre .1, rw (h, w .ensures .1) (room (c .before .before .before .before .before .before)))
+    (pre .1, rw (h, w .ensures .1) (room (before)))
 
 same-length : tie.Need-same-length
-same-length c = c .before .before .write-live .kept .1 .1 .1 .0 ∙ c .before .before .before .before .before .before .write-columns .kept .1 .1 .1 .1 .0 ∙ simp length-set
+same-length c =
+    let write-columns = c .before .before .before .before .before .before .write-columns in
+    c .before .before .write-live .kept .1 .1 .1 .0 ∙ write-columns .kept .1 .1 .1 .1 .0 ∙ simp length-set
 
 returns-2 : tie.Need-returns-2
 unfolding batchWords
 returns-2 c =
-    let a = c .before .before .before .before .before .before .before .before .before .before .before .before .before .before .args in
-    let w = c .before .before .before .before .before .before .write-columns .ensures in
-    let e = length-is (c .before .before .before .before .before .before .before .before .before .before) in (
+    let bound-count = c .before .before .before .before .before .before .before .before .before .before .bound-count in
+    let before = c .before .before .before .before .before .before .before .before .before .before in
+    let if1 = c .before .before .before .before .before .before .before .before .before .if1 in
+    let count2 = c .before .before .before .before .before .before .before .before .count in
+    let write-columns = c .before .before .before .before .before .before .write-columns in
+    let a = before .before .before .before .before .args in
+    let w = write-columns .ensures in
+    let e = length-is (before) in (
       c .before .before .write-live .ensures
-          ∙ rw (w .0, c .before .before .before .before .before .before .before .before .count .ensures, c .before .before .before .before .before .before .before .before .before .before .bound-count .ensures) (put-three (count (a .mask .live)) (a .kept .matches) (howMany (λ v. getD (a .kept .bound .known) v false) 32) (runs (λ v. columnWords (now (a .bindings)) (a .kept .matches) (getD (a .kept .bound .known) v false) v) 32) (tab (λ i. flag (getD (a .mask .live) i false)) (a .kept .matches)) (now (a .answer)) (a .at) (c .before .before .before .before .before .before .write-columns .result) (w .1))
-          ∙ placed-fits (batchWords (a .kept .matches) (a .kept .bound .known) (now (a .bindings)) (a .mask .live)) (a .at) (now (a .answer)) (omega (arith, c .before .before .before .before .before .before .before .before .before .if1 .left, e)),
+          ∙ rw (w .0, count2 .ensures, bound-count .ensures) (put-three (count (a .mask .live)) (a .kept .matches) (howMany (λ v. getD (a .kept .bound .known) v false) 32) (runs (λ v. columnWords (now (a .bindings)) (a .kept .matches) (getD (a .kept .bound .known) v false) v) 32) (tab (λ i. flag (getD (a .mask .live) i false)) (a .kept .matches)) (now (a .answer)) (a .at) (write-columns .result) (w .1))
+          ∙ placed-fits (batchWords (a .kept .matches) (a .kept .bound .known) (now (a .bindings)) (a .mask .live)) (a .at) (now (a .answer)) (omega (arith, if1 .left, e)),
       omega (arith, e),
     )
 

@@ -29,7 +29,9 @@ slice-write-answer : tie.Need-slice-write-answer
 slice-write-answer c = omega (arith, room (c .before))
 
 add-write-2 : tie.Need-add-write-2
-add-write-2 c = omega (arith, room (c .before .before), c .before .before .before .before .before .good)
+add-write-2 c =
+    let good = c .before .before .before .before .before .good in
+    omega (arith, room (c .before .before), good)
 
 write-requires : tie.Need-write-requires
 write-requires c κs =
@@ -42,10 +44,11 @@ same-length c = c .before .before .write .kept .1 .1 .0 ∙ simp length-set
 
 returns : tie.Need-returns
 returns c =
+    let if1 = c .before .before .before .before .before .before .if1 in
     let a = c .before .before .before .before .before .before .before .before .before .args in
     let e = add-sub-cancel-left (256 * a .v .0) (a .lanes) in
     let w = c .before .before .write .ensures in
-    rw (c .before .before .before .before .before .before .if1 .taken) (w .0 ∙ rw e (put-cons (a .v .0) (part (now (a .bindings)) (256 * a .v .0) (a .lanes)) (now (a .answer)) (a .at)), w .1 ∙ rw e (omega arith))
+    rw (if1 .taken) (w .0 ∙ rw e (put-cons (a .v .0) (part (now (a .bindings)) (256 * a .v .0) (a .lanes)) (now (a .answer)) (a .at)), w .1 ∙ rw e (omega arith))
 
 returns-2 : tie.Need-returns-2
 returns-2 c = rw (c .if1 .left) (refl, omega arith)

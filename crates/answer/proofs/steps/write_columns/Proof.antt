@@ -23,11 +23,12 @@ loop-holds c = (search needs, search needs, end-none _ _, put-none _ _ _)
 
 write-column-requires : tie.Need-write-column-requires Inv-loop μ-loop
 write-column-requires c κs =
+    let loop-test = c .before .before .loop-test in
     let a = c .before .before .before .before .before .before .args in
     let l = c .before .before .before .loop in
     let f : ℕ → List ℕ = (λ (v : ℕ). columnWords (now (a .bindings)) (a .lanes) (getD (a .t2 .known) v false) v) in
     let p = c .before .before .before .before .before .before .pre in
-    (c .before .before .loop-test .taken, p .0, p .1, put-fits f (a .start) (l .v) 32 (l .at) (length (l .answer)) (c .before .before .loop-test .taken) (l .inv .2) (omega (arith, p .2, l .inv .1)))
+    (loop-test .taken, p .0, p .1, put-fits f (a .start) (l .v) 32 (l .at) (length (l .answer)) (loop-test .taken) (l .inv .2) (omega (arith, p .2, l .inv .1)))
 
 loop-again : tie.Need-loop-again Inv-loop μ-loop
 loop-again c =

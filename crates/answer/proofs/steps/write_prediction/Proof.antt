@@ -23,9 +23,11 @@ same-length c = c .before .before .write .kept .1 .1 .0 ∙ simp length-set
 
 returns-2 : tie.Need-returns-2
 returns-2 c =
+    let if1 = c .before .before .before .before .before .if1 in
+    let flag2 = c .before .before .before .before .flag in
     let a = c .before .before .before .before .before .before .before .before .args in
     let w = c .before .before .write .ensures in (
-      w .0 ∙ rw (c .before .before .before .before .flag .ensures) (put-cons (flag (a .made)) (now (a .row)) (now (a .answer)) (a .at)) ∙ placed-fits (predictionWords (a .made) (now (a .row))) (a .at) (now (a .answer)) (omega (arith, c .before .before .before .before .before .if1 .left)),
+      w .0 ∙ rw (flag2 .ensures) (put-cons (flag (a .made)) (now (a .row)) (now (a .answer)) (a .at)) ∙ placed-fits (predictionWords (a .made) (now (a .row))) (a .at) (now (a .answer)) (omega (arith, if1 .left)),
       omega (arith, w .1),
     )
 

@@ -12,7 +12,9 @@ same-length : tie.Need-same-length
 same-length c = search needs
 
 returns : tie.Need-returns
-returns c = (rw (c .bind2 .ensures), c .before .before .before .before .bind .ensures)
+returns c =
+    let bind = c .before .before .before .before .bind in
+    (rw (c .bind2 .ensures), bind .ensures)
 
 pub insert-spec : {M : Type 1} → statement M
 insert-spec = tie.close (tie.spec bind-requires bind-requires-2 same-length returns)

@@ -20,11 +20,12 @@ build-requires c κs =
 
 insert-all-requires : tie.Need-insert-all-requires
 insert-all-requires c κs =
+    let table-of = c .before .before .before .before .before .table-of in
     let a = c .before .before .before .before .before .before .before .before .before .before .args in
     let p = c .before .before .before .before .before .before .before .before .before .before .pre in
     let b = c .before .before .before .build in
     let l : length (b .last .1 .1 .0) ≡ 18432 = b .kept .1 .1 .0 in
-    (p .0, p .1, p .2, record { few = p .3; is = of-index (a .info) (b .last .1 .1 .0) _ (length (b .last .1 .1 .0)) (λ z. omega arith) (b .ensures ∙ ap (λ (t : TableInfo). indexed (homeIn (now (a .rows)) t) (t .rows)) (c .before .before .before .before .before .table-of .ensures)) })
+    (p .0, p .1, p .2, record { few = p .3; is = of-index (a .info) (b .last .1 .1 .0) _ (length (b .last .1 .1 .0)) (λ z. omega arith) (b .ensures ∙ ap (λ (t : TableInfo). indexed (homeIn (now (a .rows)) t) (t .rows)) (table-of .ensures)) })
 
 pub insert-indexed-spec : {M : Type 1} → statement M
 insert-indexed-spec =

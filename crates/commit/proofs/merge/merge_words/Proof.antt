@@ -28,10 +28,11 @@ loop-again c =
 
 returns : tie.Need-returns Inv-loop μ-loop
 returns c =
+    let pre = c .before .before .before .before .pre in
     let l = c .before .loop in
     let a = c .before .before .before .before .args in
     let e : l .i ≡ length (now (a .new)) = omega arith in
-    l .inv .2 ∙ ap (λ (k : ℕ). sets (now (a .rows)) (a .at) (tab (mergedWord (a .rule) (now (a .rows)) (a .at) (now (a .new))) k)) e ∙ ap (sets (now (a .rows)) (a .at)) (merge-all (a .rule) (now (a .rows)) (a .at) (now (a .new)) (c .before .before .before .before .pre))
+    l .inv .2 ∙ ap (λ (k : ℕ). sets (now (a .rows)) (a .at) (tab (mergedWord (a .rule) (now (a .rows)) (a .at) (now (a .new))) k)) e ∙ ap (sets (now (a .rows)) (a .at)) (merge-all (a .rule) (now (a .rows)) (a .at) (now (a .new)) (pre))
 
 pub merge-words-spec : {M : Type 1} → statement M
 merge-words-spec =

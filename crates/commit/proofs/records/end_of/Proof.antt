@@ -12,21 +12,33 @@ use Rattle.commit.proofs.records.end_of.Tie as tie
 
 add-result-2 : tie.Need-add-result-2
 add-result-2 c =
-    let body = firstOf (now (c .before .before .before .before .before .before .before .args .words)) (c .before .before .before .word2 .result) in
-    omega (arith, ap (λ (i : TableInfo). i .keys) (c .before .before .info-of .ensures), c .before .before .before .before .before .before .shared-slice-known .given body, c .before .before .before .before .before .before .before .pre, c .before .before .before .before .before .before .before .good)
+    let a = c .before .before .before .before .before .before .before .args in
+    let pre = c .before .before .before .before .before .before .before .pre in
+    let good = c .before .before .before .before .before .before .before .good in
+    let shared-slice-known = c .before .before .before .before .before .before .shared-slice-known in
+    let body = firstOf (now (a .words)) (c .before .before .before .word2 .result) in
+    omega (arith, ap (λ (i : TableInfo). i .keys) (c .before .before .info-of .ensures), shared-slice-known .given body, pre, good)
 
 add-result-4 : tie.Need-add-result-4
 add-result-4 c =
-    let body = firstOf (now (c .before .before .before .before .before .before .before .args .words)) (c .before .before .before .word2 .result) in
-    omega (arith, ap (λ (i : TableInfo). i .width) (c .before .before .info-of .ensures), c .before .before .before .before .before .before .shared-slice-known .given body, c .before .before .before .before .before .before .shared-slice-known .given (body + 1), c .before .before .before .before .before .before .before .pre, c .before .before .before .before .before .before .before .good)
+    let a = c .before .before .before .before .before .before .before .args in
+    let pre = c .before .before .before .before .before .before .before .pre in
+    let good = c .before .before .before .before .before .before .before .good in
+    let shared-slice-known = c .before .before .before .before .before .before .shared-slice-known in
+    let body = firstOf (now (a .words)) (c .before .before .before .word2 .result) in
+    omega (arith, ap (λ (i : TableInfo). i .width) (c .before .before .info-of .ensures), shared-slice-known .given body, shared-slice-known .given (body + 1), pre, good)
 
 returns : tie.Need-returns
 unfolding endOf
-returns c = rw (← c .before .before .before .before .word .ensures, c .before .if1 .taken, c .before .before .info-of .ensures, c .before .before .before .word2 .ensures)
+returns c =
+    let word = c .before .before .before .before .word in
+    rw (← word .ensures, c .before .if1 .taken, c .before .before .info-of .ensures, c .before .before .before .word2 .ensures)
 
 returns-2 : tie.Need-returns-2
 unfolding endOf
-returns-2 c = rw (← c .before .before .before .before .word .ensures, ne-eqb _ _ (c .before .if1 .left), c .before .before .info-of .ensures, c .before .before .before .word2 .ensures)
+returns-2 c =
+    let word = c .before .before .before .before .word in
+    rw (← word .ensures, ne-eqb _ _ (c .before .if1 .left), c .before .before .info-of .ensures, c .before .before .before .word2 .ensures)
 
 pub end-of-spec : {M : Type 1} → statement M
 end-of-spec =

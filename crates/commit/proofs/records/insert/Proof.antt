@@ -13,24 +13,43 @@ use Rattle.commit.proofs.records.insert.Tie as tie
 
 returns : tie.Need-returns
 unfolding insertRow
-returns c = (rw (← c .before .before .word .ensures, ne-eqb _ _ (c .if1 .taken)), c .before .before .before .before .before .before .pre .2 .is)
+returns c =
+    let pre = c .before .before .before .before .before .before .pre in
+    (rw (← c .before .before .word .ensures, ne-eqb _ _ (c .if1 .taken)), pre .2 .is)
 
 returns-2 : tie.Need-returns-2
 unfolding insertRow
-returns-2 c = (rw (← c .before .before .before .before .word .ensures, eq-eqb _ _ (c .before .before .if1 .left), ← c .before .word2 .ensures, eq-eqb _ _ (c .if2 .taken)), c .before .before .before .before .before .before .before .before .pre .2 .is)
+returns-2 c =
+    let pre = c .before .before .before .before .before .before .before .before .pre in
+    let word = c .before .before .before .before .word in
+    (rw (← word .ensures, eq-eqb _ _ (c .before .before .if1 .left), ← c .before .word2 .ensures, eq-eqb _ _ (c .if2 .taken)), pre .2 .is)
 
 add-end : tie.Need-add-end
-add-end c = omega (arith, c .before .before .before .before .before .before .before .before .before .pre .4 (rw (← c .before .before .before .before .before .word .ensures, eq-eqb _ _ (c .before .before .before .if1 .left), ← c .before .before .word2 .ensures, ne-eqb _ _ (c .before .if2 .left))), c .before .before .before .before .before .before .before .before .before .good)
+add-end c =
+    let pre = c .before .before .before .before .before .before .before .before .before .pre in
+    let good = c .before .before .before .before .before .before .before .before .before .good in
+    let word = c .before .before .before .before .before .word in
+    omega (arith, pre .4 (rw (← word .ensures, eq-eqb _ _ (c .before .before .before .if1 .left), ← c .before .before .word2 .ensures, ne-eqb _ _ (c .before .if2 .left))), good)
 
 part-put-end : tie.Need-part-put-end
-part-put-end c = omega (arith, c .before .before .before .before .before .before .before .before .before .before .before .pre .4 (rw (← c .before .before .before .before .before .before .before .word .ensures, eq-eqb _ _ (c .before .before .before .before .before .if1 .left), ← c .before .before .before .before .word2 .ensures, ne-eqb _ _ (c .before .before .before .if2 .left))))
+part-put-end c =
+    let pre = c .before .before .before .before .before .before .before .before .before .before .before .pre in
+    let word = c .before .before .before .before .before .before .before .word in
+    let if1 = c .before .before .before .before .before .if1 in
+    let word2 = c .before .before .before .before .word2 in
+    omega (arith, pre .4 (rw (← word .ensures, eq-eqb _ _ (if1 .left), ← word2 .ensures, ne-eqb _ _ (c .before .before .before .if2 .left))))
 
 returns-3 : tie.Need-returns-3
 unfolding insertRow
 returns-3 c =
+    let word = c .before .before .before .before .before .before .before .before .before .before .before .before .before .word in
+    let if1 = c .before .before .before .before .before .before .before .before .before .before .before .if1 in
+    let word2 = c .before .before .before .before .before .before .before .before .before .before .word2 in
+    let if2 = c .before .before .before .before .before .before .before .before .before .if2 in
+    let put = c .before .before .before .before .put in
     let a = c .before .before .before .before .before .before .before .before .before .before .before .before .before .before .before .before .before .args in
-    let r = c .before .before .before .before .put .ensures in (
-      rw (← c .before .before .before .before .before .before .before .before .before .before .before .before .before .word .ensures, eq-eqb _ _ (c .before .before .before .before .before .before .before .before .before .before .before .if1 .left), ← c .before .before .before .before .before .before .before .before .before .before .word2 .ensures, ne-eqb _ _ (c .before .before .before .before .before .before .before .before .before .if2 .left))
+    let r = put .ensures in (
+      rw (← word .ensures, eq-eqb _ _ (if1 .left), ← word2 .ensures, ne-eqb _ _ (if2 .left))
           (r .0 ∙ ap (λ (n : ℕ). putRow (a .info) (take n (drop (a .p + 2) (now (a .log)))) (record { words = now (a .rows); part = a .part })) (add-sub-cancel-left (a .p + 2) (a .info .width))),
       r .1,
     )

@@ -42,15 +42,17 @@ loop-less c =
 
 loop-again : tie.Need-loop-again Inv-loop μ-loop
 loop-again c =
+    let pre = c .before .before .before .before .before .before .before .before .before .before .before .before .before .before .before .pre in
+    let loop-test = c .before .before .before .before .before .before .before .before .loop-test in
     let a = c .before .before .before .before .before .before .before .before .before .before .before .before .before .before .before .args in
     let l = c .before .before .before .before .before .before .before .before .before .loop in
     let i = c .before .before .before .before .before .insert in
     let r = i .ensures .0 in
-    let k = insert-keeps (now (a .log)) (a .t .0) (a .info) (l .p) (record { words = l .rows; part = l .part }) (λ e. omega (arith, insertion-end (now (a .words)) (now (a .log)) (l .p) (a .t .0) e, ap (λ (i : TableInfo). i .width) (c .before .before .before .before .before .before .before .before .before .before .before .before .before .before .before .pre .0), l .inv .0)) (l .inv .2) in (
+    let k = insert-keeps (now (a .log)) (a .t .0) (a .info) (l .p) (record { words = l .rows; part = l .part }) (λ e. omega (arith, insertion-end (now (a .words)) (now (a .log)) (l .p) (a .t .0) e, ap (λ (i : TableInfo). i .width) (pre .0), l .inv .0)) (l .inv .2) in (
       c .end-of2 .ensures,
       ap (λ (s : Rows). length (s .words)) r ∙ k .1 ∙ l .inv .1,
       subst (Stand (a .info .width)) (sym r) (k .0),
-      reached-more (endOf (now (a .words)) (now (a .log))) (length (now (a .log))) (insertRow (now (a .log)) (a .t .0) (a .info)) (record { words = now (a .rows); part = a .start }) (l .inv .3) (l .inv .0) (omega (arith, end-after (now (a .words)) (now (a .log)) (l .p), l .inv .0)) (c .before .before .before .before .before .before .before .before .loop-test .taken) r,
+      reached-more (endOf (now (a .words)) (now (a .log))) (length (now (a .log))) (insertRow (now (a .log)) (a .t .0) (a .info)) (record { words = now (a .rows); part = a .start }) (l .inv .3) (l .inv .0) (omega (arith, end-after (now (a .words)) (now (a .log)) (l .p), l .inv .0)) (loop-test .taken) r,
       i .kept .1 .1 .1 .1 .1 .0 ∙ l .inv .4,
       rw (l .inv .4) at (i .ensures .1),
     )

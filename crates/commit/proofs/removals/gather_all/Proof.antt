@@ -40,21 +40,24 @@ loop-less c =
 
 loop-again : tie.Need-loop-again Inv-loop μ-loop
 loop-again c =
+    let pre = c .before .before .before .before .before .before .before .before .before .before .before .pre in
+    let loop-test = c .before .before .before .before .before .loop-test in
     let a = c .before .before .before .before .before .before .before .before .before .before .before .args in
     let l = c .before .before .before .before .before .before .loop in
     let s : Keys = record { words = l .gone; count = l .n } in
     let r = c .before .before .before .gather in (
       c .end-of2 .ensures,
       r .kept .1 .1 .1 .1 .0 ∙ l .inv .1,
-      omega (arith, store-fits (now (a .words)) (now (a .log)) (a .t .0) (a .k) (c .before .before .before .before .before .before .before .before .before .before .before .pre .0) (l .p) s (l .inv .2), ap (λ (x : Keys). x .count * a .k + 2 * x .count) (r .ensures), l .inv .0),
-      reached-more (endOf (now (a .words)) (now (a .log))) (length (now (a .log))) (storeTurn (now (a .log)) (a .t .0) (a .k)) (record { words = now (a .gone); count = 0 }) (l .inv .3) (l .inv .0) (omega (arith, end-after (now (a .words)) (now (a .log)) (l .p), l .inv .0)) (c .before .before .before .before .before .loop-test .taken) (r .ensures),
+      omega (arith, store-fits (now (a .words)) (now (a .log)) (a .t .0) (a .k) (pre .0) (l .p) s (l .inv .2), ap (λ (x : Keys). x .count * a .k + 2 * x .count) (r .ensures), l .inv .0),
+      reached-more (endOf (now (a .words)) (now (a .log))) (length (now (a .log))) (storeTurn (now (a .log)) (a .t .0) (a .k)) (record { words = now (a .gone); count = 0 }) (l .inv .3) (l .inv .0) (omega (arith, end-after (now (a .words)) (now (a .log)) (l .p), l .inv .0)) (loop-test .taken) (r .ensures),
     )
 
 returns : tie.Need-returns Inv-loop μ-loop
 returns c =
+    let pre = c .before .before .before .before .before .before .pre in
     let a = c .before .before .before .before .before .before .args in
     let l = c .before .loop in
-    (omega (arith, l .inv .2, l .inv .3 .within), reached-end (endOf (now (a .words)) (now (a .log))) (length (now (a .log))) (storeTurn (now (a .log)) (a .t .0) (a .k)) (record { words = now (a .gone); count = 0 }) (l .inv .3) (l .inv .0) (c .loop-test .left) ∙ stored-laid (now (a .words)) (now (a .log)) (a .t .0) (a .k) (c .before .before .before .before .before .before .pre .0) (now (a .gone)))
+    (omega (arith, l .inv .2, l .inv .3 .within), reached-end (endOf (now (a .words)) (now (a .log))) (length (now (a .log))) (storeTurn (now (a .log)) (a .t .0) (a .k)) (record { words = now (a .gone); count = 0 }) (l .inv .3) (l .inv .0) (c .loop-test .left) ∙ stored-laid (now (a .words)) (now (a .log)) (a .t .0) (a .k) (pre .0) (now (a .gone)))
 
 pub gather-all-spec : {M : Type 1} → statement M
 gather-all-spec =

@@ -18,8 +18,9 @@ returns c = search needs
 
 returns-2 : tie.Need-returns-2
 returns-2 c =
+    let pre = c .before .before .before .before .pre in
     let a = c .before .before .before .before .args in
-    (omega arith, ap (laidOnto (now (a .gone))) (none-gathered (now (a .words)) (now (a .log)) (a .t .0) (a .k) (c .before .before .before .before .pre .2 (c .if1 .left))))
+    (omega arith, ap (laidOnto (now (a .gone))) (none-gathered (now (a .words)) (now (a .log)) (a .t .0) (a .k) (pre .2 (c .if1 .left))))
 
 pub gather-if-spec : {M : Type 1} → statement M
 gather-if-spec = tie.close (tie.spec gather-all-requires same-length returns returns-2)

@@ -27,20 +27,31 @@ abbrev μ-loop : tie.MeasureT-loop
 
 -- the row at `at` stands in the words
 within : (c : tie.In-loop Inv-loop μ-loop) → c .before .loop .at + c .before .before .before .before .before .before .args .info .width ≤ length (now (c .before .before .before .before .before .before .args .words))
-within c = omega (arith, row-within (c .before .loop .i) (c .before .before .before .before .before .before .args .info .rows) (c .before .before .before .before .before .before .args .info .width) (c .loop-test .taken), c .before .before .before .before .before .before .pre .0 .stands .rows, c .before .loop .inv .1)
+within c =
+    let a = c .before .before .before .before .before .before .args in
+    let pre = c .before .before .before .before .before .before .pre in
+    omega (arith, row-within (c .before .loop .i) (a .info .rows) (a .info .width) (c .loop-test .taken), pre .0 .stands .rows, c .before .loop .inv .1)
 
 row-length : (c : tie.In-loop Inv-loop μ-loop) → length (take (c .before .loop .at + c .before .before .before .before .before .before .args .info .width - c .before .loop .at) (drop (c .before .loop .at) (now (c .before .before .before .before .before .before .args .words)))) ≡ c .before .before .before .before .before .before .args .info .width
-row-length c = ap (λ (n : ℕ). length (take n (drop (c .before .loop .at) (now (c .before .before .before .before .before .before .args .words))))) (add-sub-cancel-left (c .before .loop .at) (c .before .before .before .before .before .before .args .info .width)) ∙ length-part (now (c .before .before .before .before .before .before .args .words)) (c .before .loop .at) (c .before .before .before .before .before .before .args .info .width) (within c)
+row-length c =
+    let a = c .before .before .before .before .before .before .args in
+    ap (λ (n : ℕ). length (take n (drop (c .before .loop .at) (now (a .words))))) (add-sub-cancel-left (c .before .loop .at) (a .info .width)) ∙ length-part (now (a .words)) (c .before .loop .at) (a .info .width) (within c)
 
 loop-holds : tie.Need-loop-holds Inv-loop μ-loop
 unfolding spared
-loop-holds c = (search needs, omega arith, refl, c .before .before .before .before .pre .4, refl)
+loop-holds c =
+    let pre = c .before .before .before .before .pre in
+    (search needs, omega arith, refl, pre .4, refl)
 
 add-end : tie.Need-add-end Inv-loop μ-loop
-add-end c = omega (arith, within c, c .before .before .before .before .before .before .good)
+add-end c =
+    let good = c .before .before .before .before .before .before .good in
+    omega (arith, within c, good)
 
 mul-keep-row : tie.Need-mul-keep-row Inv-loop μ-loop
-mul-keep-row c = omega (arith, within c, c .before .before .before .before .before .before .good)
+mul-keep-row c =
+    let good = c .before .before .before .before .before .before .good in
+    omega (arith, within c, good)
 
 part-keep-row-end : tie.Need-part-keep-row-end Inv-loop μ-loop
 part-keep-row-end c = within c
@@ -52,16 +63,19 @@ keep-row-requires c κs =
     (pre .1, pre .2, omega (arith, row-length (c .before .before), pre .3), st .within, few-rows (pre .0 .some) st)
 
 add-i : tie.Need-add-i Inv-loop μ-loop
-add-i c = omega (arith, c .before .before .before .before .before .before .before .before .before .before .before .good)
+add-i c =
+    let good = c .before .before .before .before .before .before .before .before .before .before .before .good in
+    omega (arith, good)
 
 loop-again : tie.Need-loop-again Inv-loop μ-loop
 unfolding spared
 loop-again c =
-    let a = c .before .before .before .before .before .before .before .before .before .before .before .args in
-    let l = c .before .before .before .before .before .before .loop in
+    let before = c .before .before .before .before .before in
+    let a = before .before .before .before .before .before .before .args in
+    let l = before .before .loop in
     let r = c .before .before .keep-row .ensures in
     let s : Rows = record { words = l .rows; part = l .part } in
-    let k = spare-keeps (now (a .gone)) (a .removed) (take (l .at + a .info .width - l .at) (drop (l .at) (now (a .words)))) (row-length (c .before .before .before .before .before)) s (l .inv .3) in (
+    let k = spare-keeps (now (a .gone)) (a .removed) (take (l .at + a .info .width - l .at) (drop (l .at) (now (a .words)))) (row-length (before)) s (l .inv .3) in (
       search needs,
       omega (arith, next-row (l .i) (a .info .width)),
       ap (λ (s : Rows). length (s .words)) r ∙ k .1 ∙ l .inv .2,
@@ -72,8 +86,9 @@ loop-again c =
 
 returns : tie.Need-returns Inv-loop μ-loop
 returns c =
+    let a = c .before .before .before .before .before .before .args in
     let l = c .before .loop in
-    let e : l .i ≡ c .before .before .before .before .before .before .args .info .rows = omega arith in
+    let e : l .i ≡ a .info .rows = omega arith in
     rw e at (l .inv .4)
 
 pub keep-all-spec : {M : Type 1} → statement M

@@ -10,8 +10,10 @@ use Rattle.commit.proofs.removals.keep_row.Tie as tie
 -- what is found by the row's key
 found-is : (c : tie.After-look-up) → foundRow (now (c .before .before .before .before .before .before .before .args .gone)) (c .before .before .before .before .before .before .before .args .removed) (now (c .before .before .before .before .before .before .before .args .row)) ≡ c .look-up .result
 found-is c =
+    let pre = c .before .before .before .before .before .before .before .pre in
+    let key-of = c .before .before .key-of in
     let a = c .before .before .before .before .before .before .before .args in
-    key-found (now (a .gone)) (a .removed) (now (a .row)) (c .before .before .key-of .result) (c .before .before .key-of .ensures) (c .before .before .before .before .before .before .before .pre .2) (c .before .before .before .before .before .before .before .pre .0 .few) ∙ sym (c .look-up .ensures)
+    key-found (now (a .gone)) (a .removed) (now (a .row)) (key-of .result) (key-of .ensures) (pre .2) (pre .0 .few) ∙ sym (c .look-up .ensures)
 
 returns : tie.Need-returns
 unfolding spareRow
@@ -19,7 +21,10 @@ returns c = rw (found-is (c .before .before), c .enum-told .given .1)
 
 returns-2 : tie.Need-returns-2
 unfolding spareRow
-returns-2 c = rw (found-is (c .before .before .before .before .before .before), c .before .before .before .before .enum-told2 .given .1) (c .before .before .append .ensures)
+returns-2 c =
+    let before = c .before .before .before .before .before .before in
+    let enum-told2 = c .before .before .before .before .enum-told2 in
+    rw (found-is (before), enum-told2 .given .1) (c .before .before .append .ensures)
 
 pub keep-row-spec : {M : Type 1} → statement M
 keep-row-spec =

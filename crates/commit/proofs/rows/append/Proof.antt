@@ -29,7 +29,10 @@ same-length c = search needs
 
 returns-3 : tie.Need-returns-3
 unfolding appended
-returns-3 c = rw (c .before .before .before .before .before .if1 .left, le-leb _ _ (c .before .before .before .before .if2 .left), c .before .before .copy .ensures)
+returns-3 c =
+    let if1 = c .before .before .before .before .before .if1 in
+    let if2 = c .before .before .before .before .if2 in
+    rw (if1 .left, le-leb _ _ (if2 .left), c .before .before .copy .ensures)
 
 pub append-spec : {M : Type 1} → statement M
 append-spec =

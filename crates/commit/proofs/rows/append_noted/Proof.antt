@@ -27,9 +27,10 @@ returns c =
 
 returns-2 : tie.Need-returns-2
 returns-2 c =
+    let append = c .before .before .before .before .before .before .append in
     let a = c .before .before .before .before .before .before .before .before .before .before .before .args in
     let p = c .before .before .before .before .before .before .before .before .before .before .before .pre in
-    let e = c .before .before .before .before .before .before .append .ensures in
+    let e = append .ensures in
     let s : Rows = record { words = now (a .rows); part = a .part } in
     (e, p .2 .is ∙ uncounted (a .info) (p .0) (now (a .row)) (p .3) s (p .1) (sym (ap (λ (x : Rows). x .part .count) e) ∙ c .if2 .taken) (length (now (a .index))) ∙ ap (λ (x : Rows). indexFor (a .info) x (length (now (a .index)))) (sym e))
 
@@ -38,27 +39,32 @@ home-requires c κs = let p = c .before .before .before .before .before .before 
 
 add-requires : tie.Need-add-requires
 add-requires c κs =
+    let append = c .before .before .before .before .before .before .before .before .append in
+    let if1 = c .before .before .before .before .before .if1 in
     let a = c .before .before .before .before .before .before .before .before .before .before .before .before .before .args in
     let p = c .before .before .before .before .before .before .before .before .before .before .before .before .before .pre in
-    let e = c .before .before .before .before .before .before .before .before .append .ensures in
+    let e = append .ensures in
     let w = now (a .rows) in
     let s : Rows = record { words = w; part = a .part } in
     let t = newInfo (a .info) (a .part) in
     let n = a .part .count in
     let l = row-counted (a .info) (p .0) (now (a .row)) (p .3) s (p .1) (λ z. c .before .before .if2 .left (ap (λ (x : Rows). x .part .count) e ∙ z)) in
-    either (λ z. absurd (c .before .before .before .before .before .if1 .left z)) (λ q.
+    either (λ z. absurd (if1 .left z)) (λ q.
     let s = subst (Tails n) (sym q) (indexed-tails (homeIn w t) n (row-home-below w t)) in
     (s .size, omega (arith, l, p .2 .few), c .home .ensures .1, s .below (c .home .result) (c .home .ensures .1))) (index-of (a .info) (now (a .index)) _ (p .2 .is))
 
 returns-3 : tie.Need-returns-3
 returns-3 c =
+    let append = c .before .before .before .before .before .before .before .before .before .before .before .append in
+    let if1 = c .before .before .before .before .before .before .before .before .if1 in
+    let if2 = c .before .before .before .before .before .if2 in
     let a = c .before .before .before .before .before .before .before .before .before .before .before .before .before .before .before .before .args in
     let p = c .before .before .before .before .before .before .before .before .before .before .before .before .before .before .before .before .pre in
-    let e = c .before .before .before .before .before .before .before .before .before .before .before .append .ensures in
+    let e = append .ensures in
     let s : Rows = record { words = now (a .rows); part = a .part } in
     let noted = c .before .before .add .ensures ∙ ap (λ (h : ℕ). added (a .part .count) h (now (a .index))) (c .before .before .before .home .ensures .0) in
-    let n = c .before .before .before .before .before .before .before .before .if1 .left in
-    let counted : appended (now (a .row)) s .part .count ≢ a .part .count = λ z. c .before .before .before .before .before .if2 .left (ap (λ (x : Rows). x .part .count) e ∙ z) in
+    let n = if1 .left in
+    let counted : appended (now (a .row)) s .part .count ≢ a .part .count = λ z. if2 .left (ap (λ (x : Rows). x .part .count) e ∙ z) in
     let is = either (λ z. absurd (n z)) (λ q. noted ∙ append-indexed (a .info) (p .0) (now (a .row)) (p .3) s (p .1) counted (now (a .index)) q) (index-of (a .info) (now (a .index)) s (p .2 .is)) in
     (e, of-index (a .info) _ (appended (now (a .row)) s) (length (now (a .index))) n is ∙ ap (λ (x : Rows). indexFor (a .info) x (length (now (a .index)))) (sym e))
 

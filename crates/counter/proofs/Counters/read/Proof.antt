@@ -19,8 +19,9 @@ returns c = search needs
 
 returns-2 : tie.Need-returns-2
 returns-2 c =
-    let n : length (c .before .before .args .t1 .next) ≡ 16 = search needs in
-    sym (List·getD-eq-default (c .before .before .args .t1 .next) 0 {n = c .before .before .args .c .0} (omega arith))
+    let a = c .before .before .args in
+    let n : length (a .t1 .next) ≡ 16 = search needs in
+    sym (List·getD-eq-default (a .t1 .next) 0 {n = a .c .0} (omega arith))
 
 pub read-spec : {M : Type 1} → statement M
 read-spec = tie.close (tie.spec cast-i mul-result element-copy-out-result returns returns-2)

@@ -22,8 +22,9 @@ returns c = search needs
 
 returns-2 : tie.Need-returns-2
 returns-2 c =
-    let n : length (c .before .before .args .t1 .next) ≡ 16 = search needs in
-    ap (λ (x : List ℕ). record { next = x }) (sym (set-out (c .before .before .args .t1 .next) (c .before .before .args .c .0) (c .before .before .args .to .next) (omega arith)))
+    let a = c .before .before .args in
+    let n : length (a .t1 .next) ≡ 16 = search needs in
+    ap (λ (x : List ℕ). record { next = x }) (sym (set-out (a .t1 .next) (a .c .0) (a .to .next) (omega arith)))
 
 pub set-spec : {M : Type 1} → statement M
 set-spec = tie.close (tie.spec cast-i mul-self element-write-self returns returns-2)

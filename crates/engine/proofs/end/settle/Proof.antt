@@ -10,7 +10,10 @@ use Rattle.engine.proofs.end.settle.Statement.{statement}
 use Rattle.engine.proofs.end.settle.Tie as tie
 
 slice-aggregate-commit : tie.Need-slice-aggregate-commit
-slice-aggregate-commit c = sym (length-take-le (c .before .before .before .before .before .before .args .p .state .used) (now (c .before .before .before .before .before .before .args .log)) (c .before .before .before .before .before .before .pre .3 .used))
+slice-aggregate-commit c =
+    let a = c .before .before .before .before .before .before .args in
+    let pre = c .before .before .before .before .before .before .pre in
+    sym (length-take-le (a .p .state .used) (now (a .log)) (pre .3 .used))
 
 commit-requires : tie.Need-commit-requires
 commit-requires c κs =
@@ -19,13 +22,28 @@ commit-requires c κs =
     (omega (arith, pre .1, few-tables (now (a .words)) (pre .0)), omega (arith, length-take-le (a .p .state .used) (now (a .log)) (pre .3 .used), pre .3 .short, pre .3 .used), omega (arith, pre .2), λ t l. ready-table (now (a .words)) (pre .0 .contents) (pre .0 .bodies) t (omega (arith, pre .1)))
 
 returns : tie.Need-returns
-returns c = settled-over (now (c .before .before .before .before .before .before .before .before .before .before .before .args .words)) (c .before .before .before .before .before .before .before .before .before .before .before .args .p) (now (c .before .before .before .before .before .before .before .before .before .before .before .args .log)) (now (c .before .before .before .before .before .before .before .before .before .before .before .args .tables)) (now (c .before .before .before .before .before .before .before .before .before .before .before .args .answer)) (c .before .before .before .before .before .before .before .before .before .before .before .args .count) (c .before .before .before .before .before .before .before .before .before .before .before .pre .1) (record { words = c .before .before .before .commit .last .1 .1 .1 .0; result = c .before .before .before .commit .result }) (c .before .before .before .commit .ensures) (c .if1 .taken)
+returns c =
+    let a = c .before .before .before .before .before .before .before .before .before .before .before .args in
+    let pre = c .before .before .before .before .before .before .before .before .before .before .before .pre in
+    let commit = c .before .before .before .commit in
+    settled-over (now (a .words)) (a .p) (now (a .log)) (now (a .tables)) (now (a .answer)) (a .count) (pre .1) (record { words = commit .last .1 .1 .1 .0; result = commit .result }) (commit .ensures) (c .if1 .taken)
 
 assemble-requires : tie.Need-assemble-requires
-assemble-requires c κs = (c .before .before .before .before .before .before .before .before .before .before .before .before .before .before .before .pre .0, c .before .before .before .before .before .before .before .before .before .before .before .before .before .before .before .pre .3 .used, enough-here (now (c .before .before .before .before .before .before .before .before .before .before .before .before .before .before .before .args .words)) (c .before .before .before .before .before .before .before .before .before .before .before .before .before .before .before .args .p) (now (c .before .before .before .before .before .before .before .before .before .before .before .before .before .before .before .args .log)) (now (c .before .before .before .before .before .before .before .before .before .before .before .before .before .before .before .args .tables)) (now (c .before .before .before .before .before .before .before .before .before .before .before .before .before .before .before .args .answer)) (c .before .before .before .before .before .before .before .before .before .before .before .before .before .before .before .args .count) (c .before .before .before .before .before .before .before .before .before .before .before .before .before .before .before .pre .1) (record { words = c .before .before .before .before .before .before .before .commit .last .1 .1 .1 .0; result = c .before .before .before .before .before .before .before .commit .result }) (c .before .before .before .before .before .before .before .commit .ensures) (c .before .before .before .before .if1 .left) (c .before .before .before .before .before .before .before .before .before .before .before .before .before .before .before .pre .0) (c .before .before .before .before .before .before .before .before .before .before .before .before .before .before .before .pre .2) (c .before .before .before .before .before .before .before .commit .kept .1 .1 .1 .0) (c .before .before .before .before .before .before .before .before .before .before .before .before .before .before .before .pre .3))
+assemble-requires c κs =
+    let pre = c .before .before .before .before .before .before .before .before .before .before .before .before .before .before .before .pre in
+    let a = c .before .before .before .before .before .before .before .before .before .before .before .before .before .before .before .args in
+    let commit = c .before .before .before .before .before .before .before .commit in
+    let if1 = c .before .before .before .before .if1 in
+    (pre .0, pre .3 .used, enough-here (now (a .words)) (a .p) (now (a .log)) (now (a .tables)) (now (a .answer)) (a .count) (pre .1) (record { words = commit .last .1 .1 .1 .0; result = commit .result }) (commit .ensures) (if1 .left) (pre .0) (pre .2) (commit .kept .1 .1 .1 .0) (pre .3))
 
 returns-2 : tie.Need-returns-2
-returns-2 c = settled-answer (now (c .before .before .before .before .before .before .before .before .before .before .before .before .before .before .before .before .before .before .before .args .words)) (c .before .before .before .before .before .before .before .before .before .before .before .before .before .before .before .before .before .before .before .args .p) (now (c .before .before .before .before .before .before .before .before .before .before .before .before .before .before .before .before .before .before .before .args .log)) (now (c .before .before .before .before .before .before .before .before .before .before .before .before .before .before .before .before .before .before .before .args .tables)) (now (c .before .before .before .before .before .before .before .before .before .before .before .before .before .before .before .before .before .before .before .args .answer)) (c .before .before .before .before .before .before .before .before .before .before .before .before .before .before .before .before .before .before .before .args .count) (c .before .before .before .before .before .before .before .before .before .before .before .before .before .before .before .before .before .before .before .pre .1) (record { words = c .before .before .before .before .before .before .before .before .before .before .before .commit .last .1 .1 .1 .0; result = c .before .before .before .before .before .before .before .before .before .before .before .commit .result }) (c .before .before .before .before .before .before .before .before .before .before .before .commit .ensures) (c .before .before .before .before .before .before .before .before .if1 .left) (c .before .before .before .assemble .result) (c .by-length .result) (c .before .before .before .assemble .last .1 .1 .1 .1 .1 .1 .1 .0) (c .before .before .before .assemble .ensures .1) (c .by-length .ensures) (c .before .before .before .assemble .ensures .0)
+returns-2 c =
+    let a = c .before .before .before .before .before .before .before .before .before .before .before .before .before .before .before .before .before .before .before .args in
+    let pre = c .before .before .before .before .before .before .before .before .before .before .before .before .before .before .before .before .before .before .before .pre in
+    let commit = c .before .before .before .before .before .before .before .before .before .before .before .commit in
+    let if1 = c .before .before .before .before .before .before .before .before .if1 in
+    let assemble = c .before .before .before .assemble in
+    settled-answer (now (a .words)) (a .p) (now (a .log)) (now (a .tables)) (now (a .answer)) (a .count) (pre .1) (record { words = commit .last .1 .1 .1 .0; result = commit .result }) (commit .ensures) (if1 .left) (assemble .result) (c .by-length .result) (assemble .last .1 .1 .1 .1 .1 .1 .1 .0) (assemble .ensures .1) (c .by-length .ensures) (assemble .ensures .0)
 
 pub settle-spec : {M : Type 1} → statement M
 settle-spec =

@@ -23,33 +23,46 @@ loop-holds c = (search needs, refl, c .before .before .pre .3)
 
 add-rows-requires : tie.Need-add-rows-requires Inv-loop μ-loop
 add-rows-requires c κs =
-    let w = now (c .before .before .before .before .before .before .args .words) in
+    let a = c .before .before .before .before .before .before .args in
+    let pre = c .before .before .before .before .before .before .pre in
+    let loop-test = c .before .before .loop-test in
+    let w = now (a .words) in
     let l = c .before .before .before .loop in
     let i = c .before .info-of .ensures in
-    let m = before-within w (c .before .before .before .before .before .before .args .n) (l .t) (c .before .before .loop-test .taken) in
-    (rw i (c .before .before .before .before .before .before .pre .1 (l .t) (c .before .before .loop-test .taken)), rw (i, l .inv .1) (omega (arith, m, c .before .before .before .before .before .before .pre .2)), rw (l .inv .1, l .inv .2) (book-tails w (l .t)))
+    let m = before-within w (a .n) (l .t) (loop-test .taken) in
+    (rw i (pre .1 (l .t) (loop-test .taken)), rw (i, l .inv .1) (omega (arith, m, pre .2)), rw (l .inv .1, l .inv .2) (book-tails w (l .t)))
 
 add-first : tie.Need-add-first Inv-loop μ-loop
 add-first c =
-    let w = now (c .before .before .before .before .before .before .before .before .before .before .args .words) in
+    let a = c .before .before .before .before .before .before .before .before .before .before .args in
+    let pre = c .before .before .before .before .before .before .before .before .before .before .pre in
+    let loop-test = c .before .before .before .before .before .before .loop-test in
+    let info-of = c .before .before .before .before .before .info-of in
+    let w = now (a .words) in
     let l = c .before .before .before .before .before .before .before .loop in
-    omega (arith, before-within w (c .before .before .before .before .before .before .before .before .before .before .args .n) (l .t) (c .before .before .before .before .before .before .loop-test .taken), c .before .before .before .before .before .before .before .before .before .before .pre .2, l .inv .1, ap (λ (i : TableInfo). i .rows) (c .before .before .before .before .before .info-of .ensures))
+    omega (arith, before-within w (a .n) (l .t) (loop-test .taken), pre .2, l .inv .1, ap (λ (i : TableInfo). i .rows) (info-of .ensures))
 
 loop-again : tie.Need-loop-again Inv-loop μ-loop
 unfolding rowsBefore bookIndexed
 loop-again c =
-    let w = now (c .before .before .before .before .before .before .before .before .before .before .args .words) in
+    let a = c .before .before .before .before .before .before .before .before .before .before .args in
+    let info-of = c .before .before .before .before .before .info-of in
+    let w = now (a .words) in
     let l = c .before .before .before .before .before .before .before .loop in
-    let i = c .before .before .before .before .before .info-of .ensures in
+    let i = info-of .ensures in
     (search needs, rw (i, l .inv .1, add-one), rw add-one (c .before .before .before .add-rows .ensures ∙ rw (i, l .inv .1, l .inv .2)))
 
 same-length : tie.Need-same-length Inv-loop μ-loop
-same-length c = let l = c .before .loop in ap length (l .inv .2) ∙ book-tails (now (c .before .before .before .before .args .words)) (l .t) .size ∙ sym (ap length (c .before .before .before .before .pre .3) ∙ length-replicate {A = ℕ} 18432 0)
+same-length c =
+    let a = c .before .before .before .before .args in
+    let pre = c .before .before .before .before .pre in
+    let l = c .before .loop in ap length (l .inv .2) ∙ book-tails (now (a .words)) (l .t) .size ∙ sym (ap length (pre .3) ∙ length-replicate {A = ℕ} 18432 0)
 
 returns : tie.Need-returns Inv-loop μ-loop
 returns c =
+    let a = c .before .before .before .before .args in
     let l = c .before .loop in
-    let e : l .t ≡ c .before .before .before .before .args .n = omega arith in
+    let e : l .t ≡ a .n = omega arith in
     rw e at (l .inv .2)
 
 pub build-all-spec : {M : Type 1} → statement M

@@ -18,7 +18,9 @@ unfolding rowsBefore
 loop-holds c = (search needs, search needs, refl)
 
 add-rows : tie.Need-add-rows Inv-loop μ-loop
-add-rows c = omega (arith, c .rows-of .ensures .1, c .before .before .loop .inv .1, c .before .loop-test .taken, c .before .before .before .before .pre)
+add-rows c =
+    let pre = c .before .before .before .before .pre in
+    omega (arith, c .rows-of .ensures .1, c .before .before .loop .inv .1, c .before .loop-test .taken, pre)
 
 loop-again : tie.Need-loop-again Inv-loop μ-loop
 unfolding rowsBefore

@@ -21,13 +21,15 @@ abbrev μ-loop : tie.MeasureT-loop
 
 add-n : tie.Need-add-n Inv-loop μ-loop
 add-n c =
+    let a = c .before .before .before .before .args in
     let l = c .before .before .before .loop in
-    omega (arith, howMany-le (λ (k : ℕ). getD (c .before .before .before .before .args .t1 .live) k false) (l .i))
+    omega (arith, howMany-le (λ (k : ℕ). getD (a .t1 .live) k false) (l .i))
 
 loop-again : tie.Need-loop-again Inv-loop μ-loop
 loop-again c =
+    let a = c .before .before .before .before .args in
     let l = c .before .before .before .loop in
-    let m = c .before .before .before .before .args .t1 .live in
+    let m = a .t1 .live in
     let p : ℕ → Bool = λ (k : ℕ). getD m k false in
     (search needs, iter-more (λ k. when (p k) suc) (l .i) 0 (l .n) _ (l .inv .1) (⊎-elim (λ w. rw (w .0 .taken) (w .1 ∙ rw add-one)) (λ w. rw (w .0 .left) (w .1)) (c .if1 .came)))
 

@@ -17,8 +17,9 @@ abbrev μ-loop : tie.MeasureT-loop
 
 loop-again : tie.Need-loop-again Inv-loop μ-loop
 loop-again c =
+    let a = c .before .before .before .before .before .args in
     let l = c .before .before .before .before .loop in
-    let m = c .before .before .before .before .before .args .t1 .live in
+    let m = a .t1 .live in
     (search needs, search needs, c .later .ensures ∙ rw (c .before .marked .ensures .0) (last-turn (λ k. getD m k false) (l .i) (l .last .0) (l .inv .2)))
 
 at-end : (c : tie.After-loop Inv-loop μ-loop) → cond (getD (c .before .before .args .t1 .live) (c .before .loop .last .0) false) (c .before .loop .last .0 + 1) 0 ≡ end (c .before .before .args .t1 .live)

@@ -18,7 +18,9 @@ add-part : tie.Need-add-part
 add-part c = omega (arith, subst Small (c .before .p .given .1) (c .before .before .before .get .ensures .1))
 
 returns-2 : tie.Need-returns-2
-returns-2 c = c .part .ensures ∙ rw (← c .before .before .before .before .get .ensures .0, c .before .before .p .given .1)
+returns-2 c =
+    let get = c .before .before .before .before .get in
+    c .part .ensures ∙ rw (← get .ensures .0, c .before .before .p .given .1)
 
 returns-3 : tie.Need-returns-3
 returns-3 c = rw (← c .before .before .before .get .ensures .0, c .before .enum-told .given .1)

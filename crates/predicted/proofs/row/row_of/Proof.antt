@@ -6,7 +6,9 @@ use Rattle.predicted.proofs.row.row_of.Tie as tie
 
 returns : tie.Need-returns
 unfolding rowOf
-returns c = c .part .ensures ∙ rw (← c .before .before .before .before .look-up-among .ensures, c .before .before .p .given .1)
+returns c =
+    let look-up-among = c .before .before .before .before .look-up-among in
+    c .part .ensures ∙ rw (← look-up-among .ensures, c .before .before .p .given .1)
 
 returns-2 : tie.Need-returns-2
 unfolding rowOf

@@ -5,10 +5,17 @@ use Rattle.reader.proofs.bodies.batch.Statement.{statement}
 use Rattle.reader.proofs.bodies.batch.Tie as tie
 
 mul-block : tie.Need-mul-block
-mul-block c = omega (arith, words-fit (c .before .before .before .before .size-at2 .result) (c .before .before .before .before .before .size-at .result) (omega arith) (omega arith))
+mul-block c =
+    let size-at = c .before .before .before .before .before .size-at in
+    let size-at2 = c .before .before .before .before .size-at2 in
+    omega (arith, words-fit (size-at2 .result) (size-at .result) (omega arith) (omega arith))
 
 returns : tie.Need-returns
-returns c = rw (c .block .ensures, c .before .word3 .ensures, c .before .before .word2 .ensures, c .before .before .before .word .ensures, c .before .before .before .before .start .ensures, c .before .before .before .before .before .size-at2 .ensures .0, c .before .before .before .before .before .before .size-at .ensures .0, batch-is)
+returns c =
+    let size-at = c .before .before .before .before .before .before .size-at in
+    let size-at2 = c .before .before .before .before .before .size-at2 in
+    let start = c .before .before .before .before .start in
+    rw (c .block .ensures, c .before .word3 .ensures, c .before .before .word2 .ensures, c .before .before .before .word .ensures, start .ensures, size-at2 .ensures .0, size-at .ensures .0, batch-is)
 
 pub batch-spec : {M : Type 1} → statement M
 batch-spec =

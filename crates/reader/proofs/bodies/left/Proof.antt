@@ -14,7 +14,10 @@ enum-known-s c = search needs
 
 returns : tie.Need-returns
 unfolding left
-returns c = rw (c .before .before .s .given .1, ne-eqb (c .before .before .s .given .0 .0 + c .before .before .before .before .args .n) (c .before .before .before .before .args .end) (omega arith))
+returns c =
+    let a = c .before .before .before .before .args in
+    let s = c .before .before .s in
+    rw (s .given .1, ne-eqb (s .given .0 .0 + a .n) (a .end) (omega arith))
 
 returns-2 : tie.Need-returns-2
 unfolding left
@@ -22,11 +25,17 @@ returns-2 c = rw (c .enum-told .given .1)
 
 returns-3 : tie.Need-returns-3
 unfolding left
-returns-3 c = rw (c .before .before .before .s .given .1, eq-eqb (c .before .before .before .s .given .0 .0 + c .before .before .before .before .before .args .n) (c .before .before .before .before .before .args .end) (omega arith))
+returns-3 c =
+    let a = c .before .before .before .before .before .args in
+    let s = c .before .before .before .s in
+    rw (s .given .1, eq-eqb (s .given .0 .0 + a .n) (a .end) (omega arith))
 
 returns-4 : tie.Need-returns-4
 unfolding left
-returns-4 c = rw (c .before .before .before .s .given .1, ne-eqb (c .before .before .before .s .given .0 .0 + c .before .before .before .before .before .args .n) (c .before .before .before .before .before .args .end) (omega arith))
+returns-4 c =
+    let a = c .before .before .before .before .before .args in
+    let s = c .before .before .before .s in
+    rw (s .given .1, ne-eqb (s .given .0 .0 + a .n) (a .end) (omega arith))
 
 pub left-spec : {M : Type 1} → statement M
 left-spec = tie.close (tie.spec enum-told enum-known-s returns returns-2 returns-3 returns-4)

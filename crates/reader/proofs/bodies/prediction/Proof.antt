@@ -19,7 +19,9 @@ finish-requires : tie.Need-finish-requires
 finish-requires c κs = search needs
 
 returns : tie.Need-returns
-returns c = rw (c .finish .ensures, c .before .pairs .ensures, c .before .before .values .ensures, c .before .before .before .word .ensures, c .before .before .before .before .start .ensures, prediction-is)
+returns c =
+    let start = c .before .before .before .before .start in
+    rw (c .finish .ensures, c .before .pairs .ensures, c .before .before .values .ensures, c .before .before .before .word .ensures, start .ensures, prediction-is)
 
 pub prediction-spec : {M : Type 1} → statement M
 prediction-spec =

@@ -14,10 +14,20 @@ returns-2 : tie.Need-returns-2
 returns-2 c = λ z. let a = c .before .before .before .before .before .before .args in sym (table-wide (a .end) (now (a .words)) z (a .at) (omega arith))
 
 mul-block : tie.Need-mul-block
-mul-block c = omega (arith, words-fit (c .before .before .before .before .before .before .before .size-at3 .result) (c .before .before .before .before .before .before .before .before .before .size-at .result + c .before .before .before .before .before .before .before .before .size-at2 .result) (omega arith) (omega arith))
+mul-block c =
+    let size-at = c .before .before .before .before .before .before .before .before .before .size-at in
+    let size-at2 = c .before .before .before .before .before .before .before .before .size-at2 in
+    let size-at3 = c .before .before .before .before .before .before .before .size-at3 in
+    omega (arith, words-fit (size-at3 .result) (size-at .result + size-at2 .result) (omega arith) (omega arith))
 
 returns-3 : tie.Need-returns-3
-returns-3 c = λ z. let a = c .before .before .before .before .before .before .before .before .before .before .before .before .args in rw (c .block .ensures, c .before .word4 .ensures, c .before .before .word3 .ensures, c .before .before .before .word2 .ensures, c .before .before .before .before .word .ensures, c .before .before .before .before .before .start .ensures, c .before .before .before .before .before .before .before .before .size-at3 .ensures .0, c .before .before .before .before .before .before .before .before .before .size-at2 .ensures .0, c .before .before .before .before .before .before .before .before .before .before .size-at .ensures .0, table-is (a .end) (now (a .words)) z (a .at) (omega arith))
+returns-3 c =
+    let size-at = c .before .before .before .before .before .before .before .before .before .before .size-at in
+    let size-at2 = c .before .before .before .before .before .before .before .before .before .size-at2 in
+    let size-at3 = c .before .before .before .before .before .before .before .before .size-at3 in
+    let start = c .before .before .before .before .before .start in
+    let word = c .before .before .before .before .word in
+    λ z. let a = c .before .before .before .before .before .before .before .before .before .before .before .before .args in rw (c .block .ensures, c .before .word4 .ensures, c .before .before .word3 .ensures, c .before .before .before .word2 .ensures, word .ensures, start .ensures, size-at3 .ensures .0, size-at2 .ensures .0, size-at .ensures .0, table-is (a .end) (now (a .words)) z (a .at) (omega arith))
 
 pub table-spec : {M : Type 1} → statement M
 table-spec =

@@ -14,8 +14,10 @@ returns c =
 
 returns-2 : tie.Need-returns-2
 returns-2 c =
+    let peek = c .before .before .before .before .before .peek in
+    let size = c .before .before .before .before .size in
     let a = c .before .before .before .before .before .before .before .args in
-    rw (c .cleans .ensures, c .before .before .before .word .ensures, c .before .before .before .before .size .ensures .0, c .before .before .before .before .before .peek .ensures, list-is (a .end) (now (a .words)) 16 (word (a .end) (now (a .words)) clean) (word-bad (a .end) (now (a .words)) clean) (scanOf (a .s)))
+    rw (c .cleans .ensures, c .before .before .before .word .ensures, size .ensures .0, peek .ensures, list-is (a .end) (now (a .words)) 16 (word (a .end) (now (a .words)) clean) (word-bad (a .end) (now (a .words)) clean) (scanOf (a .s)))
 
 pub values-spec : {M : Type 1} → statement M
 values-spec =

@@ -15,7 +15,9 @@ by-kind-requires : tie.Need-by-kind-requires
 by-kind-requires c κs = search needs
 
 returns : tie.Need-returns
-returns c = rw (c .by-kind .ensures, c .before .end-of .ensures .0, c .before .before .first-of .ensures .0, c .before .before .before .kind-of .ensures, c .before .before .before .before .before .pre .1)
+returns c =
+    let pre = c .before .before .before .before .before .pre in
+    rw (c .by-kind .ensures, c .before .end-of .ensures .0, c .before .before .first-of .ensures .0, c .before .before .before .kind-of .ensures, pre .1)
 
 pub walk-spec : {M : Type 1} → statement M
 walk-spec =

@@ -26,11 +26,12 @@ loop-again c =
 
 returns : tie.Need-returns Inv-loop μ-loop
 returns c =
+    let peek = c .before .before .before .before .peek in
     let l = c .before .loop in
     let e : l .k ≡ 6 = omega arith in
     let fs = c .before .before .before .fields in
     let n : length (fs .result) ≡ 6 = search needs in
-    l .inv .1 ∙ rw (e, c .before .before .word .ensures, instr-is _ _ _ _ (fs .result) n (rw (c .before .before .before .before .peek .ensures) at (fs .ensures)))
+    l .inv .1 ∙ rw (e, c .before .before .word .ensures, instr-is _ _ _ _ (fs .result) n (rw (peek .ensures) at (fs .ensures)))
 
 pub instr-spec : {M : Type 1} → statement M
 instr-spec =

@@ -33,11 +33,13 @@ loop-again c =
 
 returns-2 : tie.Need-returns-2 Inv-loop μ-loop
 returns-2 c =
+    let peek = c .before .before .before .before .before .peek in
+    let word = c .before .before .before .before .word in
     let a = c .before .before .before .before .before .before .before .args in
     let one = instr (a .end) (now (a .words)) (sizesOf (a .sizes)) in
     let l = c .before .loop in
-    let e : l .i ≡ c .before .before .before .before .before .peek .result = omega arith in
-    l .inv .1 ∙ rw (e, c .before .before .before .before .word .ensures, c .before .before .before .before .before .peek .ensures, list-is (a .end) (now (a .words)) 64 one (instr-bad (a .end) (now (a .words)) (sizesOf (a .sizes))) (scanOf (a .s)))
+    let e : l .i ≡ peek .result = omega arith in
+    l .inv .1 ∙ rw (e, word .ensures, peek .ensures, list-is (a .end) (now (a .words)) 64 one (instr-bad (a .end) (now (a .words)) (sizesOf (a .sizes))) (scanOf (a .s)))
 
 pub instrs-spec : {M : Type 1} → statement M
 instrs-spec =

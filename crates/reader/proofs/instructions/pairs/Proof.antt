@@ -34,11 +34,13 @@ loop-again c =
 
 returns-2 : tie.Need-returns-2 Inv-loop μ-loop
 returns-2 c =
+    let peek = c .before .before .before .before .before .peek in
+    let word = c .before .before .before .before .word in
     let a = c .before .before .before .before .before .before .before .args in
     let one = pair (a .end) (now (a .words)) (sizesOf (a .sizes)) (a .from) (a .to) in
     let l = c .before .loop in
-    let e : l .i ≡ c .before .before .before .before .before .peek .result = omega arith in
-    l .inv .1 ∙ rw (e, c .before .before .before .before .word .ensures, c .before .before .before .before .before .peek .ensures, list-is (a .end) (now (a .words)) 16 one (pair-bad (a .end) (now (a .words)) (sizesOf (a .sizes)) (a .from) (a .to)) (scanOf (a .s)))
+    let e : l .i ≡ peek .result = omega arith in
+    l .inv .1 ∙ rw (e, word .ensures, peek .ensures, list-is (a .end) (now (a .words)) 16 one (pair-bad (a .end) (now (a .words)) (sizesOf (a .sizes)) (a .from) (a .to)) (scanOf (a .s)))
 
 pub pairs-spec : {M : Type 1} → statement M
 pairs-spec =

@@ -37,8 +37,10 @@ returns c =
 
 add-own : tie.Need-add-own Inv-loop μ-loop
 add-own c =
+    let pre = c .before .before .before .before .before .before .pre in
+    let good = c .before .before .before .before .before .before .good in
     let l = c .before .before .before .loop in
-    omega (arith, row-fit (c .before .before .before .before .before .before .pre .0) (l .i) (c .before .before .loop-test .taken), l .inv .1, c .before .before .before .before .before .before .good)
+    omega (arith, row-fit (pre .0) (l .i) (c .before .before .loop-test .taken), l .inv .1, good)
 
 loop-again : tie.Need-loop-again Inv-loop μ-loop
 loop-again c =

@@ -9,19 +9,28 @@ use Rattle.reader.proofs.rows.repeated.Tie as tie
 
 first-indexed-requires : tie.Need-first-indexed-requires
 first-indexed-requires c κs =
-    let w = now (c .before .before .before .before .args .words) in
-    (subst (RowsStand w) (sym (c .before .before .info-at .ensures)) (c .before .before .before .before .pre), serves-few _ (sym (c .before .serves .ensures) ∙ c .if1 .taken))
+    let a = c .before .before .before .before .args in
+    let pre = c .before .before .before .before .pre in
+    let w = now (a .words) in
+    (subst (RowsStand w) (sym (c .before .before .info-at .ensures)) (pre), serves-few _ (sym (c .before .serves .ensures) ∙ c .if1 .taken))
 
 returns : tie.Need-returns
-returns c = c .first-indexed .ensures (c .before .before .before .before .before .args .at) (c .before .before .before .info-at .ensures)
+returns c =
+    let a = c .before .before .before .before .before .args in
+    c .first-indexed .ensures (a .at) (c .before .before .before .info-at .ensures)
 
 first-repeat-requires : tie.Need-first-repeat-requires
 first-repeat-requires c κs =
-    let w = now (c .before .before .before .before .before .args .words) in
-    (subst (RowsStand w) (sym (c .before .before .before .info-at .ensures)) (c .before .before .before .before .before .pre), inl refl)
+    let a = c .before .before .before .before .before .args in
+    let pre = c .before .before .before .before .before .pre in
+    let w = now (a .words) in
+    (subst (RowsStand w) (sym (c .before .before .before .info-at .ensures)) (pre), inl refl)
 
 returns-2 : tie.Need-returns-2
-returns-2 c = c .first-repeat .ensures (c .before .before .before .before .before .before .args .at) (c .before .before .before .before .info-at .ensures)
+returns-2 c =
+    let a = c .before .before .before .before .before .before .args in
+    let info-at = c .before .before .before .before .info-at in
+    c .first-repeat .ensures (a .at) (info-at .ensures)
 
 pub repeated-spec : {M : Type 1} → statement M
 repeated-spec =

@@ -23,8 +23,9 @@ returns-2 c = rw (c .enum-told .given .1)
 
 returns-3 : tie.Need-returns-3
 returns-3 c =
+    let a = c .before .before .before .before .before .args in
     let s = c .before .before .s .given in
-    rw (s .1) (sym (List·getD-eq-default (now (c .before .before .before .before .before .args .words)) 0 {n = s .0 .0} (omega (arith, c .if1 .left))))
+    rw (s .1) (sym (List·getD-eq-default (now (a .words)) 0 {n = s .0 .0} (omega (arith, c .if1 .left))))
 
 pub peek-spec : {M : Type 1} → statement M
 peek-spec = tie.close (tie.spec enum-told enum-known-s take-requires returns returns-2 returns-3)

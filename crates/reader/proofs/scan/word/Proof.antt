@@ -11,8 +11,9 @@ returns c = rw (c .enum-told .given .1)
 returns-2 : tie.Need-returns-2
 unfolding step
 returns-2 c =
+    let s = c .before .before .before .before .before .s in
     rw (
-      c .before .before .before .before .before .s .given .1,
+      s .given .1,
       lt-ltb _ _ (c .before .before .before .if1 .taken),
       c .mark .ensures,
       c .before .drawn .ensures,

@@ -12,13 +12,20 @@ use Rattle.report.proofs.lines.log.Tie as tie
 returns : tie.Need-returns
 unfolding lineBytes
 returns c =
+    let word = c .before .before .before .before .before .before .before .before .before .before .before .before .before .before .before .before .word in
+    let size = c .before .before .before .before .before .before .before .before .before .before .before .before .before .before .before .size in
+    let before2 = c .before .before .before .before .before .before .before .before .before .before .before .before .before .before .before2 in
+    let rest = c .before .before .before .before .before .before .before .before .before .before .before .before .rest in
+    let records = c .before .before .before .before .before .before .before .before .before .before .records in
+    let word2 = c .before .before .before .before .before .before .before .word2 in
+    let wide-word = c .before .before .before .before .before .before .wide-word in
     let a = c .before .before .before .before .before .before .before .before .before .before .before .before .before .before .before .before .before .before .before .args in
     let body = c .before .before .before .before .before .before .before .before .before .before .before .before .before .body in
     let b = now (body .result) in
     let t = upTo (now (a .out)) (a .at) in
-    let e : b ≡ logBody (now (a .words)) = body .ensures ∙ rw (c .before .before .before .before .before .before .before .before .before .before .before .before .before .before .before2 .ensures .0, c .before .before .before .before .before .before .before .before .before .before .before .before .before .before .before .size .ensures .0, c .before .before .before .before .before .before .before .before .before .before .before .before .before .before .before .before .word .ensures) in
+    let e : b ≡ logBody (now (a .words)) = body .ensures ∙ rw (before2 .ensures .0, size .ensures .0, word .ensures) in
     c .before .before .line .ensures
-    ∙ rw (c .before .before .before .before .before .before .wide-word .ensures, c .before .before .before .before .before .before .before .word2 .ensures) (ap (appended (lineBytes (changed (getD b 0 0)))) (c .before .before .before .before .before .before .before .before .before .before .records .ensures ∙ rw (c .before .before .before .before .before .before .before .before .before .before .before .before .rest .ensures)))
+    ∙ rw (wide-word .ensures, word2 .ensures) (ap (appended (lineBytes (changed (getD b 0 0)))) (records .ensures ∙ rw (rest .ensures)))
     ∙ log-is (now (a .words)) b t e
 
 pub log-spec : {M : Type 1} → statement M

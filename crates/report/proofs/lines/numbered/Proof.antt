@@ -19,7 +19,9 @@ abbrev μ-loop : tie.MeasureT-loop
 
 loop-holds : tie.Need-loop-holds Inv-loop μ-loop
 unfolding numbered
-loop-holds c = (search needs, search needs, search needs, written-none (now (c .before .before .before .before .args .out)) (record { count = 0; at = c .before .before .before .before .args .at }))
+loop-holds c =
+    let a = c .before .before .before .before .args in
+    (search needs, search needs, search needs, written-none (now (a .out)) (record { count = 0; at = a .at }))
 
 entry-requires : tie.Need-entry-requires Inv-loop μ-loop
 entry-requires c κs = (omega (arith, c .before .before .before .size .ensures .1), c .before .before .loop .inv .2)

@@ -19,7 +19,9 @@ same-length : tie.Need-same-length
 same-length c = search needs
 
 returns : tie.Need-returns
-returns c = (c .before .before .before .line .ensures ∙ rw (c .before .before .before .before .before .wide .ensures), refl)
+returns c =
+    let wide = c .before .before .before .before .before .wide in
+    (c .before .before .before .line .ensures ∙ rw (wide .ensures), refl)
 
 pub pair-spec : {M : Type 1} → statement M
 pair-spec =

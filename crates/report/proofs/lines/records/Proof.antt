@@ -35,12 +35,13 @@ loop-less c =
 
 loop-again : tie.Need-loop-again Inv-loop μ-loop
 loop-again c =
+    let loop-test = c .before .before .before .before .before .loop-test in
     let a = c .before .before .before .before .before .before .before .before .before .before .before .args in
     let l = c .before .before .before .before .before .before .loop in
     let r = c .before .before .before .record-line in (
       c .end-of2 .ensures,
       r .kept .1 .1 .1 .0 ∙ l .inv .1,
-      reached-more (endOf (now (a .words)) (now (a .log))) (length (now (a .log))) (writeRecord (now (a .words)) (now (a .log))) (upTo (now (a .out)) (a .at)) (l .inv .2) (l .inv .0) (omega (arith, end-after (now (a .words)) (now (a .log)) (l .p), l .inv .0)) (c .before .before .before .before .before .loop-test .taken) (rw (← l .inv .0) (r .ensures)),
+      reached-more (endOf (now (a .words)) (now (a .log))) (length (now (a .log))) (writeRecord (now (a .words)) (now (a .log))) (upTo (now (a .out)) (a .at)) (l .inv .2) (l .inv .0) (omega (arith, end-after (now (a .words)) (now (a .log)) (l .p), l .inv .0)) (loop-test .taken) (rw (← l .inv .0) (r .ensures)),
     )
 
 same-length : tie.Need-same-length Inv-loop μ-loop

@@ -12,16 +12,25 @@ use Rattle.report.proofs.lines.step.Tie as tie
 returns : tie.Need-returns
 unfolding entryLine lineBytes
 returns c =
+    let word = c .before .before .before .before .before .before .before .before .word in
+    let body = c .before .before .before .before .before .before .before .body in
+    let if1 = c .before .before .before .before .before .before .if1 in
     let p = c .before .before .pair in
     let a = c .before .before .before .before .before .before .before .before .before .before .before .args in
-    rw (← c .before .before .before .before .before .before .before .before .word .ensures, c .before .before .before .before .before .before .if1 .taken, ← c .before .before .before .before .before .before .before .body .ensures, ← c .before .before .before .word2 .ensures) (written-one _ (now (a .out)) (p .result) (a .lines) _ (p .ensures .0) (p .ensures .1))
+    rw (← word .ensures, if1 .taken, ← body .ensures, ← c .before .before .before .word2 .ensures) (written-one _ (now (a .out)) (p .result) (a .lines) _ (p .ensures .0) (p .ensures .1))
 
 returns-2 : tie.Need-returns-2
 unfolding entryLine lineBytes
 returns-2 c =
+    let word = c .before .before .before .before .before .before .before .before .before .before .before .word in
+    let body = c .before .before .before .before .before .before .before .before .before .before .body in
+    let if1 = c .before .before .before .before .before .before .before .before .before .if1 in
+    let if2 = c .before .before .before .before .before .before .before .before .if2 in
+    let wide = c .before .before .before .before .before .wide in
+    let rest = c .before .before .before .before .rest in
     let l = c .before .before .before .line in
     let a = c .before .before .before .before .before .before .before .before .before .before .before .before .before .before .args in
-    rw (← c .before .before .before .before .before .before .before .before .before .before .before .word .ensures, ne-eqb _ _ (c .before .before .before .before .before .before .before .before .before .if1 .left), c .before .before .before .before .before .before .before .before .if2 .taken, ← c .before .before .before .before .before .before .before .before .before .before .body .ensures, ← c .before .before .before .before .rest .ensures) (written-one _ (now (a .out)) (record { count = a .lines .count + 1; at = l .result }) (a .lines) _ (l .ensures ∙ rw (c .before .before .before .before .before .wide .ensures)) refl)
+    rw (← word .ensures, ne-eqb _ _ (if1 .left), if2 .taken, ← body .ensures, ← rest .ensures) (written-one _ (now (a .out)) (record { count = a .lines .count + 1; at = l .result }) (a .lines) _ (l .ensures ∙ rw (wide .ensures)) refl)
 
 returns-3 : tie.Need-returns-3
 unfolding entryLine

@@ -10,9 +10,12 @@ use Rattle.report.proofs.lines.table.Tie as tie
 returns : tie.Need-returns
 unfolding entryLine lineBytes
 returns c =
+    let word = c .before .before .before .before .before .before .before .before .word in
+    let if1 = c .before .before .before .before .before .before .before .if1 in
+    let body = c .before .before .before .before .body in
     let p = c .before .before .pair in
     let a = c .before .before .before .before .before .before .before .before .before .before .before .args in
-    rw (← c .before .before .before .before .before .before .before .before .word .ensures, c .before .before .before .before .before .before .before .if1 .taken, ← c .before .before .before .before .body .ensures, ← c .before .before .before .word2 .ensures) (written-one _ (now (a .out)) (p .result) (a .lines) _ (p .ensures .0) (p .ensures .1))
+    rw (← word .ensures, if1 .taken, ← body .ensures, ← c .before .before .before .word2 .ensures) (written-one _ (now (a .out)) (p .result) (a .lines) _ (p .ensures .0) (p .ensures .1))
 
 returns-2 : tie.Need-returns-2
 unfolding entryLine

@@ -21,10 +21,11 @@ loop-holds c = (search needs, search needs, refl)
 
 loop-again : tie.Need-loop-again Inv-loop μ-loop
 loop-again c =
+    let loop-test = c .before .before .before .before .before .loop-test in
     let l = c .before .before .before .before .before .before .loop in
     let a = c .before .before .before .before .before .before .before .before .before .args in
     let p = c .before .before .push in
-    (search needs, p .kept .0 ∙ l .inv .1, l .inv .2 ∙ byte-more (now (a .bytes)) (l .i) (c .before .before .before .before .before .loop-test .taken) (upTo (l .out) (l .next)) ∙ ap (appended (drop (l .i + 1) (now (a .bytes)))) (sym (p .ensures)))
+    (search needs, p .kept .0 ∙ l .inv .1, l .inv .2 ∙ byte-more (now (a .bytes)) (l .i) (loop-test .taken) (upTo (l .out) (l .next)) ∙ ap (appended (drop (l .i + 1) (now (a .bytes)))) (sym (p .ensures)))
 
 returns : tie.Need-returns Inv-loop μ-loop
 unfolding appended

@@ -23,8 +23,11 @@ same-length c = search needs
 
 returns : tie.Need-returns
 returns c =
+    let append = c .before .before .before .before .before .before .before .before .before .before .before .before .before .before .append in
+    let number = c .before .before .before .before .before .before .before .before .before .before .number in
+    let numbers = c .before .before .before .before .before .before .numbers in
     let a = c .before .before .before .before .before .before .before .before .before .before .before .before .before .before .before .before .before .before .before .args in
-    c .before .before .push .ensures ∙ ap (pushed 10) (c .before .before .before .before .before .before .numbers .ensures ∙ ap (appended (fields (now (a .rest)))) (c .before .before .before .before .before .before .before .before .before .before .number .ensures ∙ ap (appended (field (a .first))) (c .before .before .before .before .before .before .before .before .before .before .before .before .before .before .append .ensures))) ∙ sym (line-is (now (a .name)) (a .first) (now (a .rest)) (upTo (now (a .out)) (a .at)))
+    c .before .before .push .ensures ∙ ap (pushed 10) (numbers .ensures ∙ ap (appended (fields (now (a .rest)))) (number .ensures ∙ ap (appended (field (a .first))) (append .ensures))) ∙ sym (line-is (now (a .name)) (a .first) (now (a .rest)) (upTo (now (a .out)) (a .at)))
 
 pub line-spec : {M : Type 1} → statement M
 line-spec =

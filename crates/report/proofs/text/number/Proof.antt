@@ -10,10 +10,11 @@ use Rattle.report.proofs.text.number.Tie as tie
 returns : tie.Need-returns
 unfolding appended
 returns c =
+    let push = c .before .before .before .before .before .before .before .push in
     let d = c .before .before .before .before .before .before .before .before .before .decimal in
     let a = c .before .before .before .before .before .before .before .before .before .before .before .before .args in
     let few : d .result ≤ 20 = few-digits (d .result) (a .n) (d .ensures .1 .0) (omega arith) in
-    c .before .before .append .ensures ∙ rw (d .ensures .1 .1, decimal-is 20 (d .result) (a .n) (d .ensures .1 .0) few, c .before .before .before .before .before .before .before .push .ensures)
+    c .before .before .append .ensures ∙ rw (d .ensures .1 .1, decimal-is 20 (d .result) (a .n) (d .ensures .1 .0) few, push .ensures)
 
 pub number-spec : {M : Type 1} → statement M
 number-spec =

@@ -21,10 +21,11 @@ loop-holds c = (search needs, search needs, refl)
 
 loop-again : tie.Need-loop-again Inv-loop μ-loop
 loop-again c =
+    let loop-test = c .before .before .before .before .before .before .loop-test in
     let l = c .before .before .before .before .before .before .before .loop in
     let a = c .before .before .before .before .before .before .before .before .before .before .args in
     let p = c .before .before .number in
-    (search needs, p .kept .0 ∙ l .inv .1, l .inv .2 ∙ field-more (now (a .ns)) (l .i) (c .before .before .before .before .before .before .loop-test .taken) (upTo (l .out) (l .next)) ∙ ap (appended (fields (drop (l .i + 1) (now (a .ns))))) (sym (p .ensures ∙ rw (c .before .before .before .wide-word .ensures))))
+    (search needs, p .kept .0 ∙ l .inv .1, l .inv .2 ∙ field-more (now (a .ns)) (l .i) (loop-test .taken) (upTo (l .out) (l .next)) ∙ ap (appended (fields (drop (l .i + 1) (now (a .ns))))) (sym (p .ensures ∙ rw (c .before .before .before .wide-word .ensures))))
 
 returns : tie.Need-returns Inv-loop μ-loop
 unfolding appended fields

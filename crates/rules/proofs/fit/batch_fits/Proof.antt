@@ -9,19 +9,23 @@ use Rattle.rules.proofs.fit.batch_fits.Tie as tie
 
 add-first-of : tie.Need-add-first-of
 add-first-of c =
+    let a = c .before .before .before .before .before .args in
     let q = c .before .before .before .before .before .pre in
-    omega (arith, q .1, c .before .before .size .ensures .0, c .before .before .before .word .ensures, rule-entry (now (c .before .before .before .before .before .args .words)) (q .0) _ (q .3))
+    omega (arith, q .1, c .before .before .size .ensures .0, c .before .before .before .word .ensures, rule-entry (now (a .words)) (q .0) _ (q .3))
 
 first-of-requires : tie.Need-first-of-requires
 first-of-requires c κs =
+    let a = c .before .before .before .before .before .args in
     let q = c .before .before .before .before .before .pre in
-    omega (arith, q .1, c .before .before .size .ensures .0, c .before .before .before .word .ensures, rule-entry (now (c .before .before .before .before .before .args .words)) (q .0) _ (q .3))
+    omega (arith, q .1, c .before .before .size .ensures .0, c .before .before .before .word .ensures, rule-entry (now (a .words)) (q .0) _ (q .3))
 
 returns : tie.Need-returns
 returns c =
+    let word = c .before .before .before .before .before .word in
+    let size = c .before .before .before .before .size in
     let a = c .before .before .before .before .before .before .before .args in
     let q = c .before .before .before .before .before .before .before .pre in
-    rw (c .word4 .ensures, c .before .first-of .ensures .0, q .1, c .before .before .before .before .size .ensures .0, c .before .before .before .before .before .word .ensures, c .before .before .before .word2 .ensures, c .before .before .word3 .ensures) (sym (batch-test (now (a .words)) (q .0) (a .at) (q .3)))
+    rw (c .word4 .ensures, c .before .first-of .ensures .0, q .1, size .ensures .0, word .ensures, c .before .before .before .word2 .ensures, c .before .before .word3 .ensures) (sym (batch-test (now (a .words)) (q .0) (a .at) (q .3)))
 
 pub batch-fits-spec : {M : Type 1} → statement M
 batch-fits-spec =

@@ -46,17 +46,19 @@ batch-fits-requires c κs =
 
 prediction-fits-requires : tie.Need-prediction-fits-requires
 prediction-fits-requires c κs =
+    let pre = c .before .before .before .before .pre in
     let a = c .before .before .before .before .args in
     let w = now (a .words) in
-    let h = c .before .before .before .before .pre .0 in
+    let h = pre .0 in
     let k = a .k in
     let e = a .steps + k in
-    let s = ap (λ (x : ℕ). x + k) (c .before .before .before .before .pre .2) in
-    let b = prediction-here w h k e (c .before .first-of .result) (c .before .before .before .before .pre .3) s (c .before .first-of .ensures .0) (not-batch w h k e (c .before .first-of .result) (c .before .before .before .before .pre .3) s (c .before .first-of .ensures .0) (λ q. c .if1 .left (c .before .before .kind-of .ensures ∙ q))) in
+    let s = ap (λ (x : ℕ). x + k) (pre .2) in
+    let b = prediction-here w h k e (c .before .first-of .result) (pre .3) s (c .before .first-of .ensures .0) (not-batch w h k e (c .before .first-of .result) (pre .3) s (c .before .first-of .ensures .0) (λ q. c .if1 .left (c .before .before .kind-of .ensures ∙ q))) in
     (h, b .0, b .1, b .2)
 
 returns : tie.Need-returns
 returns c =
+    let first-of = c .before .before .first-of in
     let a = c .before .before .before .before .before .args in
     let q = c .before .before .before .before .before .pre in
     let w = now (a .words) in
@@ -64,17 +66,19 @@ returns c =
     let k = a .k in
     let e = a .steps + k in
     let s = ap (λ (x : ℕ). x + k) (q .2) in
-    c .batch-fits .ensures ∙ ap (stepFits (tables w) (rules w)) (step-batch w h k e (c .before .before .first-of .result) (q .3) s (c .before .before .first-of .ensures .0) (sym (c .before .before .before .kind-of .ensures) ∙ c .before .if1 .taken))
+    c .batch-fits .ensures ∙ ap (stepFits (tables w) (rules w)) (step-batch w h k e (first-of .result) (q .3) s (first-of .ensures .0) (sym (c .before .before .before .kind-of .ensures) ∙ c .before .if1 .taken))
 
 returns-2 : tie.Need-returns-2
 returns-2 c =
+    let pre = c .before .before .before .before .before .pre in
+    let first-of = c .before .before .first-of in
     let a = c .before .before .before .before .before .args in
     let w = now (a .words) in
-    let h = c .before .before .before .before .before .pre .0 in
+    let h = pre .0 in
     let k = a .k in
     let e = a .steps + k in
-    let s = ap (λ (x : ℕ). x + k) (c .before .before .before .before .before .pre .2) in
-    c .prediction-fits .ensures ∙ ap (stepFits (tables w) (rules w)) (step-prediction w h k e (c .before .before .first-of .result) (c .before .before .before .before .before .pre .3) s (c .before .before .first-of .ensures .0) (not-batch w h k e (c .before .before .first-of .result) (c .before .before .before .before .before .pre .3) s (c .before .before .first-of .ensures .0) (λ q. c .before .if1 .left (c .before .before .before .kind-of .ensures ∙ q))))
+    let s = ap (λ (x : ℕ). x + k) (pre .2) in
+    c .prediction-fits .ensures ∙ ap (stepFits (tables w) (rules w)) (step-prediction w h k e (first-of .result) (pre .3) s (first-of .ensures .0) (not-batch w h k e (first-of .result) (pre .3) s (first-of .ensures .0) (λ q. c .before .if1 .left (c .before .before .before .kind-of .ensures ∙ q))))
 
 pub step-fits-spec : {M : Type 1} → statement M
 step-fits-spec =

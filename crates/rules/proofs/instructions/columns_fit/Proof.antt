@@ -10,45 +10,52 @@ use Rattle.rules.proofs.instructions.columns_fit.Tie as tie
 
 column-fits-requires : tie.Need-column-fits-requires
 column-fits-requires c κs =
+    let a = c .before .before .before .before .args in
     let q = c .before .before .before .before .pre in
     let s = rw (c .before .i .given .1) at (q .1) in
-    omega (arith, s .0, few-tables (now (c .before .before .before .before .args .words)) (q .0))
+    omega (arith, s .0, few-tables (now (a .words)) (q .0))
 
 keys-of-requires : tie.Need-keys-of-requires
 keys-of-requires c κs =
+    let a = c .before .before .before .before .before .args in
     let q = c .before .before .before .before .before .pre in
     let s = rw (c .before .before .i .given .1) at (q .1) in
-    omega (arith, s .0, few-tables (now (c .before .before .before .before .before .args .words)) (q .0))
+    omega (arith, s .0, few-tables (now (a .words)) (q .0))
 
 currents-fit-requires : tie.Need-currents-fit-requires
 currents-fit-requires c κs =
-    let s = rw (c .before .before .before .i .given .1) at (c .before .before .before .before .before .before .pre .1) in
+    let pre = c .before .before .before .before .before .before .pre in
+    let s = rw (c .before .before .before .i .given .1) at (pre .1) in
     (s .2, c .keys-of .ensures .1)
 
 column-fits-requires-2 : tie.Need-column-fits-requires-2
 column-fits-requires-2 c κs =
+    let a = c .before .before .before .before .args in
     let q = c .before .before .before .before .pre in
     let s = rw (c .before .i2 .given .1) at (q .1) in
-    omega (arith, s .0, few-tables (now (c .before .before .before .before .args .words)) (q .0))
+    omega (arith, s .0, few-tables (now (a .words)) (q .0))
 
 column-fits-requires-3 : tie.Need-column-fits-requires-3
 column-fits-requires-3 c κs =
+    let a = c .before .before .before .before .args in
     let q = c .before .before .before .before .pre in
     let s = rw (c .before .i3 .given .1) at (q .1) in
-    omega (arith, s .0, few-tables (now (c .before .before .before .before .args .words)) (q .0))
+    omega (arith, s .0, few-tables (now (a .words)) (q .0))
 
 column-fits-requires-4 : tie.Need-column-fits-requires-4
 column-fits-requires-4 c κs =
+    let a = c .before .before .before .before .args in
     let q = c .before .before .before .before .pre in
     let s = rw (c .before .i4 .given .1) at (q .1) in
-    omega (arith, s .0, few-tables (now (c .before .before .before .before .args .words)) (q .0))
+    omega (arith, s .0, few-tables (now (a .words)) (q .0))
 
 returns : tie.Need-returns
 unfolding instrOf columnsOf
 returns c =
+    let i = c .before .before .before .before .i in
     let a = c .before .before .before .before .before .before .before .args in
     let q = c .before .before .before .before .before .before .before .pre in
-    let e = c .before .before .before .before .i .given in
+    let e = i .given in
     let w = now (a .words) in
     let s = rw (e .1) at (q .1) in
     rw (e .1, c .before .before .column-fits .ensures, c .currents-fit .ensures, c .before .keys-of .ensures .0, table-width w (e .0 .0 .0) (s .0), table-keys w (e .0 .0 .0) (s .0))
@@ -56,26 +63,29 @@ returns c =
 returns-2 : tie.Need-returns-2
 unfolding instrOf columnsOf
 returns-2 c =
+    let a = c .before .before .before .before .before .args in
     let q = c .before .before .before .before .before .pre in
     let e = c .before .before .i2 .given in
     let s = rw (e .1) at (q .1) in
-    rw (e .1, c .column-fits2 .ensures, table-width (now (c .before .before .before .before .before .args .words)) (e .0 .0 .0) (s .0), and-true)
+    rw (e .1, c .column-fits2 .ensures, table-width (now (a .words)) (e .0 .0 .0) (s .0), and-true)
 
 returns-3 : tie.Need-returns-3
 unfolding instrOf columnsOf
 returns-3 c =
+    let a = c .before .before .before .before .before .args in
     let q = c .before .before .before .before .before .pre in
     let e = c .before .before .i3 .given in
     let s = rw (e .1) at (q .1) in
-    rw (e .1, c .column-fits3 .ensures, table-width (now (c .before .before .before .before .before .args .words)) (e .0 .0 .0) (s .0), and-true)
+    rw (e .1, c .column-fits3 .ensures, table-width (now (a .words)) (e .0 .0 .0) (s .0), and-true)
 
 returns-4 : tie.Need-returns-4
 unfolding instrOf columnsOf
 returns-4 c =
+    let a = c .before .before .before .before .before .args in
     let q = c .before .before .before .before .before .pre in
     let e = c .before .before .i4 .given in
     let s = rw (e .1) at (q .1) in
-    rw (e .1, c .column-fits4 .ensures, table-width (now (c .before .before .before .before .before .args .words)) (e .0 .0 .0) (s .0), and-true)
+    rw (e .1, c .column-fits4 .ensures, table-width (now (a .words)) (e .0 .0 .0) (s .0), and-true)
 
 returns-5 : tie.Need-returns-5
 unfolding instrOf columnsOf

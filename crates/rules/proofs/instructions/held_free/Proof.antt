@@ -9,29 +9,34 @@ use Rattle.rules.proofs.instructions.held_free.Tie as tie
 
 all-free-requires : tie.Need-all-free-requires
 all-free-requires c κs =
-    let s = rw (c .before .i .given .1) at (c .before .before .before .before .pre) in
+    let pre = c .before .before .before .before .pre in
+    let s = rw (c .before .i .given .1) at (pre) in
     s .1
 
 all-free-requires-2 : tie.Need-all-free-requires-2
 all-free-requires-2 c κs =
-    let s = rw (c .before .before .i .given .1) at (c .before .before .before .before .before .pre) in
+    let pre = c .before .before .before .before .before .pre in
+    let s = rw (c .before .before .i .given .1) at (pre) in
     s .2
 
 all-free-requires-3 : tie.Need-all-free-requires-3
 all-free-requires-3 c κs =
-    let s = rw (c .before .i2 .given .1) at (c .before .before .before .before .pre) in
+    let pre = c .before .before .before .before .pre in
+    let s = rw (c .before .i2 .given .1) at (pre) in
     s .2
 
 all-free-requires-4 : tie.Need-all-free-requires-4
 all-free-requires-4 c κs =
-    let s = rw (c .before .i3 .given .1) at (c .before .before .before .before .pre) in
+    let pre = c .before .before .before .before .pre in
+    let s = rw (c .before .i3 .given .1) at (pre) in
     s .1
 
 returns : tie.Need-returns
 unfolding instrOf heldOf
 returns c =
+    let a = c .before .before .before .before .before .before .args in
     let g = c .before .before .before .i .given in
-    rw (g .1, c .before .all-free .ensures, c .all-free2 .ensures, against-all, all-append, writes-as-entries (λ e. free? (g .0 .1 .1 .1 .1 .0 .0, e)) (now (c .before .before .before .before .before .before .args .words)) (λ x. refl) (g .0 .1 .1 .0))
+    rw (g .1, c .before .all-free .ensures, c .all-free2 .ensures, against-all, all-append, writes-as-entries (λ e. free? (g .0 .1 .1 .1 .1 .0 .0, e)) (now (a .words)) (λ x. refl) (g .0 .1 .1 .0))
 
 returns-2 : tie.Need-returns-2
 unfolding instrOf heldOf

@@ -11,67 +11,80 @@ use Rattle.rules.proofs.instructions.reads_known.Tie as tie
 
 all-known-requires : tie.Need-all-known-requires
 all-known-requires c κs =
-    let s = rw (c .before .i .given .1) at (c .before .before .before .before .pre) in
+    let pre = c .before .before .before .before .pre in
+    let s = rw (c .before .i .given .1) at (pre) in
     s .1
 
 all-known-requires-2 : tie.Need-all-known-requires-2
 all-known-requires-2 c κs =
-    let s = rw (c .before .before .i .given .1) at (c .before .before .before .before .before .pre) in
+    let pre = c .before .before .before .before .before .pre in
+    let s = rw (c .before .before .i .given .1) at (pre) in
     s .2
 
 all-known-requires-3 : tie.Need-all-known-requires-3
 all-known-requires-3 c κs =
-    let s = rw (c .before .before .i2 .given .1) at (c .before .before .before .before .before .pre) in
+    let pre = c .before .before .before .before .before .pre in
+    let s = rw (c .before .before .i2 .given .1) at (pre) in
     s .1
 
 all-known-requires-4 : tie.Need-all-known-requires-4
 all-known-requires-4 c κs =
-    let s = rw (c .before .i3 .given .1) at (c .before .before .before .before .pre) in
+    let pre = c .before .before .before .before .pre in
+    let s = rw (c .before .i3 .given .1) at (pre) in
     s .1
 
 all-known-requires-5 : tie.Need-all-known-requires-5
 all-known-requires-5 c κs =
-    let s = rw (c .before .i4 .given .1) at (c .before .before .before .before .pre) in
+    let pre = c .before .before .before .before .pre in
+    let s = rw (c .before .i4 .given .1) at (pre) in
     s .1
 
 all-known-requires-6 : tie.Need-all-known-requires-6
 all-known-requires-6 c κs =
-    let s = rw (c .before .before .i4 .given .1) at (c .before .before .before .before .before .pre) in
+    let pre = c .before .before .before .before .before .pre in
+    let s = rw (c .before .before .i4 .given .1) at (pre) in
     s .2
 
 all-known-requires-7 : tie.Need-all-known-requires-7
 all-known-requires-7 c κs =
-    let s = rw (c .before .i5 .given .1) at (c .before .before .before .before .pre) in
+    let pre = c .before .before .before .before .pre in
+    let s = rw (c .before .i5 .given .1) at (pre) in
     s .1
 
 all-known-requires-8 : tie.Need-all-known-requires-8
 all-known-requires-8 c κs =
-    let s = rw (c .before .before .before .i6 .given .1) at (c .before .before .before .before .before .before .pre) in
+    let pre = c .before .before .before .before .before .before .pre in
+    let s = rw (c .before .before .before .i6 .given .1) at (pre) in
     s .1
 
 all-known-requires-9 : tie.Need-all-known-requires-9
 all-known-requires-9 c κs =
-    let s = rw (c .before .i7 .given .1) at (c .before .before .before .before .pre) in
+    let pre = c .before .before .before .before .pre in
+    let s = rw (c .before .i7 .given .1) at (pre) in
     s .1
 
 all-known-requires-10 : tie.Need-all-known-requires-10
 all-known-requires-10 c κs =
-    let s = rw (c .before .i8 .given .1) at (c .before .before .before .before .pre) in
+    let pre = c .before .before .before .before .pre in
+    let s = rw (c .before .i8 .given .1) at (pre) in
     s .0
 
 all-known-requires-11 : tie.Need-all-known-requires-11
 all-known-requires-11 c κs =
-    let s = rw (c .before .i9 .given .1) at (c .before .before .before .before .pre) in
+    let pre = c .before .before .before .before .pre in
+    let s = rw (c .before .i9 .given .1) at (pre) in
     s .0
 
 all-known-requires-12 : tie.Need-all-known-requires-12
 all-known-requires-12 c κs =
-    let s = rw (c .before .before .i9 .given .1) at (c .before .before .before .before .before .pre) in
+    let pre = c .before .before .before .before .before .pre in
+    let s = rw (c .before .before .i9 .given .1) at (pre) in
     s .1
 
 all-known-requires-13 : tie.Need-all-known-requires-13
 all-known-requires-13 c κs =
-    let s = rw (c .before .i12 .given .1) at (c .before .before .before .before .pre) in
+    let pre = c .before .before .before .before .pre in
+    let s = rw (c .before .i12 .given .1) at (pre) in
     s
 
 returns : tie.Need-returns
@@ -99,7 +112,10 @@ returns-5 c = rw (c .before .before .i5 .given .1, c .all-known7 .ensures)
 
 returns-6 : tie.Need-returns-6
 unfolding instrOf readsOf
-returns-6 c = and-assoc (c .before .before .known2 .result) (c .before .known3 .result) (c .all-known8 .result) ∙ rw (c .before .before .before .before .i6 .given .1, c .before .before .known2 .ensures, c .before .known3 .ensures, c .all-known8 .ensures)
+returns-6 c =
+    let i6 = c .before .before .before .before .i6 in
+    let known2 = c .before .before .known2 in
+    and-assoc (known2 .result) (c .before .known3 .result) (c .all-known8 .result) ∙ rw (i6 .given .1, known2 .ensures, c .before .known3 .ensures, c .all-known8 .ensures)
 
 returns-7 : tie.Need-returns-7
 unfolding instrOf readsOf

@@ -11,51 +11,59 @@ use Rattle.rules.proofs.instructions.sizes_fit.Tie as tie
 
 keys-fit-requires : tie.Need-keys-fit-requires
 keys-fit-requires c κs =
+    let a = c .before .before .before .before .args in
     let q = c .before .before .before .before .pre in
     let s = rw (c .before .i .given .1) at (q .1) in
-    omega (arith, s .0, few-tables (now (c .before .before .before .before .args .words)) (q .0))
+    omega (arith, s .0, few-tables (now (a .words)) (q .0))
 
 row-fits-requires : tie.Need-row-fits-requires
 row-fits-requires c κs =
+    let a = c .before .before .before .before .before .args in
     let q = c .before .before .before .before .before .pre in
     let s = rw (c .before .before .i .given .1) at (q .1) in
-    (omega (arith, s .0, few-tables (now (c .before .before .before .before .before .args .words)) (q .0)), s .1, s .2)
+    (omega (arith, s .0, few-tables (now (a .words)) (q .0)), s .1, s .2)
 
 keys-fit-requires-2 : tie.Need-keys-fit-requires-2
 keys-fit-requires-2 c κs =
+    let a = c .before .before .before .before .args in
     let q = c .before .before .before .before .pre in
     let s = rw (c .before .i2 .given .1) at (q .1) in
-    omega (arith, s .0, few-tables (now (c .before .before .before .before .args .words)) (q .0))
+    omega (arith, s .0, few-tables (now (a .words)) (q .0))
 
 keys-fit-requires-3 : tie.Need-keys-fit-requires-3
 keys-fit-requires-3 c κs =
+    let a = c .before .before .before .before .args in
     let q = c .before .before .before .before .pre in
     let s = rw (c .before .i3 .given .1) at (q .1) in
-    omega (arith, s .0, few-tables (now (c .before .before .before .before .args .words)) (q .0))
+    omega (arith, s .0, few-tables (now (a .words)) (q .0))
 
 keys-fit-requires-4 : tie.Need-keys-fit-requires-4
 keys-fit-requires-4 c κs =
+    let a = c .before .before .before .before .args in
     let q = c .before .before .before .before .pre in
     let s = rw (c .before .i4 .given .1) at (q .1) in
-    omega (arith, s .0, few-tables (now (c .before .before .before .before .args .words)) (q .0))
+    omega (arith, s .0, few-tables (now (a .words)) (q .0))
 
 width-fits-requires : tie.Need-width-fits-requires
 width-fits-requires c κs =
+    let a = c .before .before .before .before .args in
     let q = c .before .before .before .before .pre in
     let s = rw (c .before .i5 .given .1) at (q .1) in
-    omega (arith, s .0, few-tables (now (c .before .before .before .before .args .words)) (q .0))
+    omega (arith, s .0, few-tables (now (a .words)) (q .0))
 
 width-fits-requires-2 : tie.Need-width-fits-requires-2
 width-fits-requires-2 c κs =
+    let a = c .before .before .before .before .args in
     let q = c .before .before .before .before .pre in
     let s = rw (c .before .i6 .given .1) at (q .1) in
-    omega (arith, s .0, few-tables (now (c .before .before .before .before .args .words)) (q .0))
+    omega (arith, s .0, few-tables (now (a .words)) (q .0))
 
 keys-fit-requires-5 : tie.Need-keys-fit-requires-5
 keys-fit-requires-5 c κs =
+    let a = c .before .before .before .before .args in
     let q = c .before .before .before .before .pre in
     let s = rw (c .before .i7 .given .1) at (q .1) in
-    omega (arith, s .0, few-tables (now (c .before .before .before .before .args .words)) (q .0))
+    omega (arith, s .0, few-tables (now (a .words)) (q .0))
 
 returns : tie.Need-returns
 unfolding instrOf sizesOf
@@ -130,8 +138,9 @@ returns-7 c =
 returns-8 : tie.Need-returns-8
 unfolding instrOf sizesOf
 returns-8 c =
+    let a = c .before .before .before .before .before .args in
     let e = c .before .before .i8 .given in
-    rw (e .1, c .takes2 .ensures, count-entries (now (c .before .before .before .before .before .args .words)) (e .0 .1 .0), and-true)
+    rw (e .1, c .takes2 .ensures, count-entries (now (a .words)) (e .0 .1 .0), and-true)
 
 returns-9 : tie.Need-returns-9
 unfolding instrOf sizesOf
@@ -152,8 +161,9 @@ returns-11 c = rw (c .enum-told2 .given .1)
 returns-12 : tie.Need-returns-12
 unfolding instrOf sizesOf
 returns-12 c =
+    let a = c .before .before .before .before .before .args in
     let e = c .before .before .i10 .given in
-    rw (e .1, count-entries (now (c .before .before .before .before .before .args .words)) (e .0 .0), and-true)
+    rw (e .1, count-entries (now (a .words)) (e .0 .0), and-true)
 
 returns-13 : tie.Need-returns-13
 unfolding instrOf sizesOf

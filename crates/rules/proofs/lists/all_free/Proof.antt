@@ -26,15 +26,17 @@ loop-holds c = (search needs, λ i h. absurd (omega arith))
 
 returns : tie.Need-returns Inv-loop μ-loop
 returns c =
+    let l = c .before .before .before .before .loop in
     let a = c .before .before .before .before .before .before .args in
     let w = now (a .words) in
-    entries-no w (a .list) (λ e. free? (a .dst .0, e)) (c .before .before .before .before .loop .k) (c .before .before .before .loop-test .taken) (sym (c .before .free .ensures ∙ ap (λ (e : QueryEntry). free? (a .dst .0, e)) (ap entryOf (c .before .before .entry-at .ensures) ∙ entry-at w _)) ∙ not-true _ (c .if1 .taken))
+    entries-no w (a .list) (λ e. free? (a .dst .0, e)) (l .k) (c .before .before .before .loop-test .taken) (sym (c .before .free .ensures ∙ ap (λ (e : QueryEntry). free? (a .dst .0, e)) (ap entryOf (c .before .before .entry-at .ensures) ∙ entry-at w _)) ∙ not-true _ (c .if1 .taken))
 
 loop-again : tie.Need-loop-again Inv-loop μ-loop
 loop-again c =
+    let l = c .before .before .before .before .loop in
     let a = c .before .before .before .before .before .before .args in
     let w = now (a .words) in
-    (search needs, below-more _ _ (c .before .before .before .before .loop .inv .1) (sym (c .before .free .ensures ∙ ap (λ (e : QueryEntry). free? (a .dst .0, e)) (ap entryOf (c .before .before .entry-at .ensures) ∙ entry-at w _)) ∙ not-false _ (c .if1 .left)))
+    (search needs, below-more _ _ (l .inv .1) (sym (c .before .free .ensures ∙ ap (λ (e : QueryEntry). free? (a .dst .0, e)) (ap entryOf (c .before .before .entry-at .ensures) ∙ entry-at w _)) ∙ not-false _ (c .if1 .left)))
 
 returns-2 : tie.Need-returns-2 Inv-loop μ-loop
 returns-2 c =

@@ -14,8 +14,10 @@ abbrev μ-loop : tie.MeasureT-loop
 
 loop-less : tie.Need-loop-less Inv-loop μ-loop
 loop-less c =
-    let more = rw (c .before .next .given .1) at (c .before .before .before .before .before .read-some .ensures) in
-    omega (arith, more .0, more .1, c .before .before .before .before .before .before .before .before .loop .inv .1)
+    let l = c .before .before .before .before .before .before .before .before .loop in
+    let read-some = c .before .before .before .before .before .read-some in
+    let more = rw (c .before .next .given .1) at (read-some .ensures) in
+    omega (arith, more .0, more .1, l .inv .1)
 
 loop-again : tie.Need-loop-again Inv-loop μ-loop
 loop-again c =
@@ -24,10 +26,16 @@ loop-again c =
     (omega (arith, (rw (c .before .next .given .1) at (r .ensures)) .1, l .inv .1), r .kept .1 .0 ∙ l .inv .1)
 
 same-length : tie.Need-same-length Inv-loop μ-loop
-same-length c = c .before .before .before .before .read-some .kept .1 .0 ∙ c .before .before .before .before .before .before .before .loop .inv .1
+same-length c =
+    let l = c .before .before .before .before .before .before .before .loop in
+    let read-some = c .before .before .before .before .read-some in
+    read-some .kept .1 .0 ∙ l .inv .1
 
 same-length-2 : tie.Need-same-length-2 Inv-loop μ-loop
-same-length-2 c = c .before .before .before .before .read-some .kept .1 .0 ∙ c .before .before .before .before .before .before .before .loop .inv .1
+same-length-2 c =
+    let l = c .before .before .before .before .before .before .before .loop in
+    let read-some = c .before .before .before .before .read-some in
+    read-some .kept .1 .0 ∙ l .inv .1
 
 same-length-3 : tie.Need-same-length-3 Inv-loop μ-loop
 same-length-3 c = c .before .before .before .loop .inv .1
