@@ -222,7 +222,7 @@ fn note_change(got: Got) -> Got
     }
 }
 
-// The committed row of the key is there, else the predicted row, else a new one, which sets the changed flag. An index of the committed rows is lent, or an empty one for none.
+// A key without a committed row has a predicted one afterwards: where it had none before, the row is made, and the changed flag set. An index of the committed rows is lent, or an empty one for none.
 pub fn predict_val(
     words: &[u32],
     committed: &[u32],
