@@ -24,11 +24,11 @@ use Rattle.words.specs.Filled.{tab-agree}
 use Rattle.counter.specs.CounterLaws as counter
 use Rattle.commit.specs.Commit.{Left, committedRows}
 use Rattle.commit.specs.Laid.{length-join}
-use Rattle.commit.specs.RecordLaws.{Sized, recordsOf}
+use Rattle.log.specs.RecordLaws.{Sized, recordsOf}
 use Rattle.commit.specs.CommitLaws.{allRows, WideTable, whole, row-words, commit-length, commit-kept, commit-wide, committed-is, rows-first, count-at}
 use Rattle.answer.specs.declared.Assembled.the-variants.{Words, Over}
 use Rattle.answer.specs.Sums.{sum, sum-none, sum-suc}
-use Rattle.answer.specs.Runs.{join-snoc, join-append}
+use Rattle.step_bodies.specs.Runs.{join-snoc, join-append}
 use Rattle.answer.specs.Layout.{stepKind, rowsLength, Results, tableOf, counterOf, lengthOf, stepOf, logOf, bodies, wholeLength, answered, assembled, assembledLength, shapeOf, Enough}
 use Rattle.answer.specs.LayoutLaws.{all-sum, steps-sum as entries-sum}
 use Rattle.answer.specs.BodyLaws.{Fits, whole-is, tab-getD}

@@ -13,7 +13,7 @@ use Rattle.model.specs.Laws.Book.{Readable, few-entries, few-tables, few-counte
 use Rattle.answer.specs.declared.entries.Shape.{Shape}
 use Rattle.answer.specs.declared.entries.Entry.{Entry}
 use Rattle.answer.specs.Sums.{sum, sum-none, sum-suc, sum-agree, sum-fits}
-use Rattle.answer.specs.Runs.{runs, runs-none, length-suc, sets-append}
+use Rattle.step_bodies.specs.Runs.{runs, runs-none, length-suc, sets-append}
 use Rattle.answer.specs.Layout.{rowsLength, tableWords, Results, bodies, shapeOf, bodyCount, entryAt, entryWords, Small, entry, wholeLength, answered, Enough}
 use Rattle.answer.specs.LayoutLaws.{at-table, counters-sum, steps-sum, all-sum, length-entries}
 use Rattle.answer.specs.BodyLaws.{Fits, words-are, layout-is}

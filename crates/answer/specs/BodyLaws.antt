@@ -18,7 +18,7 @@ use Rattle.model.specs.Laws.Lists.{length-tab, getD-tab}
 use Rattle.answer.specs.declared.entries.Shape.{Shape}
 use Rattle.answer.specs.declared.entries.Entry.{Entry}
 use Rattle.answer.specs.Sums.{sum, sum-none, sum-suc, sum-fits}
-use Rattle.answer.specs.Runs.{runs, runs-none, runs-suc, join-append}
+use Rattle.step_bodies.specs.Runs.{runs, runs-none, runs-suc, join-append}
 use Rattle.answer.specs.Layout.{rowsLength, Results, tableOf, counterOf, lengthOf, stepOf, logOf, bodies, shapeOf, bodyCount, entryWords, entry, wholeLength}
 use Rattle.answer.specs.LayoutLaws.{at-table, at-counter, at-step, at-log, length-entries}
 

@@ -10,7 +10,7 @@ use Rattle.model.specs.Book.Contents.{kindOf}
 use Rattle.answer.specs.declared.entries.Shape.{Shape}
 use Rattle.answer.specs.declared.entries.Entry.{Entry}
 use Rattle.answer.specs.Sums.{sum, sum-suc, sum-agree, sum-le, sum-fits, sum-split, sum-const, sum-more}
-use Rattle.answer.specs.Runs.{runs, runs-none, length-suc}
+use Rattle.step_bodies.specs.Runs.{runs, runs-none, length-suc}
 use Rattle.answer.specs.Layout.{stepKind, rowsLength, bodyCount, entryAt, entryWords, Small}
 
 module _ (w counts lengths : List ℕ) (used : ℕ) (z : Shape) where

@@ -1,8 +1,5 @@
-pub mod Runs
 pub mod Sums
 pub mod Moved
-pub mod Steps
-pub mod StepLaws
 pub mod Layout
 pub mod LayoutLaws
 pub mod BodyLaws

@@ -7,8 +7,8 @@ use native.Mathlib.Omega.{arith}
 use lib.Dec.{leb}
 use lib.ListN.{length, take, drop, replicate, length-append, length-replicate}
 use lib.Seq.{sets, sets-eq, length-sets, take-at, drop-at, drop-append-add}
-use Rattle.answer.specs.Steps.{placed}
-use Rattle.answer.specs.StepLaws.{placed-fits}
+use Rattle.step_bodies.specs.Steps.{placed}
+use Rattle.step_bodies.specs.StepLaws.{placed-fits}
 use Rattle.answer.specs.AssembledLaws.{drop-zeros}
 
 pub record Scratch (ws b : List ℕ) : Type 0 where

@@ -6,11 +6,11 @@ ghost use lib.ListN.{length, take};
 ghost use lib.Seq.{sets};
 ghost use Rattle.model.specs.Answer as model;
 ghost use Rattle.answer.specs.Sums.{sum};
-ghost use Rattle.answer.specs.Runs.{runs};
+ghost use Rattle.step_bodies.specs.Runs.{runs};
 ghost use Rattle.answer.specs.Layout.{rowsLength, tableWords};
 use crate::entries;
-use crate::put;
 use ids::TableId;
+use step_bodies::put;
 
 // The first n words go d words to the right, the last one first.
 pub fn shift(answer: &mut [u32], n: usize, d: usize)

@@ -5,7 +5,7 @@ ghost use lib.ListN.{length};
 ghost use lib.Seq.{sets};
 ghost use Rattle.model.specs.Book.Contents as book;
 ghost use Rattle.answer.specs.Sums.{sum};
-ghost use Rattle.answer.specs.Runs.{runs};
+ghost use Rattle.step_bodies.specs.Runs.{runs};
 ghost use Rattle.answer.specs.Layout.{stepKind, rowsLength, shapeOf, Small, bodyCount, entryAt, entryWords};
 use ids::TableId;
 

@@ -1,8 +1,6 @@
 // The answer book: contents, then tables, counters, a body for each step in step order, and the log.
 mod bodies;
 mod entries;
-mod put;
-pub mod steps;
 
 ghost use mathlib.Core.Path.{_≡_};
 ghost use Prim.Native.Nat.{_≤_};
@@ -12,6 +10,7 @@ ghost use Rattle.answer.specs.Layout.{shapeOf, Small, wholeLength, answe
 use crate::entries::Shape;
 use commit::Committed;
 use execution::ExecutionState;
+use step_bodies::put;
 
 // How many words the answer has; or it exceeds the words lent for it.
 pub enum Assembled {

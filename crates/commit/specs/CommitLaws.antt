@@ -28,7 +28,7 @@ use Rattle.commit.specs.Rows.{Rows, onto, appended, putRow}
 use Rattle.commit.specs.Walk.{insertRow, inserted}
 use Rattle.commit.specs.Commit.{Left, keepRow, kept, begun, ended, tableCommitted, committedRows}
 use Rattle.commit.specs.Laid.{Wide, length-join, put-wide, laid, Laid, append-laid, put-laid}
-use Rattle.commit.specs.RecordLaws.{Sized, recordsOf, size-is, its-size, insertion-is, words-are, walk-records}
+use Rattle.log.specs.RecordLaws.{Sized, recordsOf, size-is, its-size, insertion-is, words-are, walk-records}
 use Rattle.commit.specs.Removals.{remain, remain-snoc, remain-all, named, removals-remain, removed-is}
 use Rattle.model.specs.Laws.Book.{table-is}
 use Rattle.commit.specs.BookLaws.{rows-wide, ready-table, few-tables}

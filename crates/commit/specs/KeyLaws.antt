@@ -16,9 +16,10 @@ use Rattle.model.specs.Laws.Bodies.{length-part}
 use Rattle.tables.specs.declared.Found.the-variants.{At, Nothing}
 use Rattle.tables.specs.Tables.{infoOf, front, sameWords, foundRow}
 use Rattle.tables.specs.TablesLaws.{next-row, row-within}
-use Rattle.commit.specs.Walk.{endOf, removalTurn, anyRemoval, isRemoval, removeTurn, walked, removed, Keys, withKey, gatherTurn, storeKey, storeTurn, removedKeys, laidOnto, keyTable, isThere}
+use Rattle.log.specs.Walk.{endOf, isRemoval, walked}
+use Rattle.commit.specs.Walk.{removalTurn, anyRemoval, removeTurn, removed, Keys, withKey, gatherTurn, storeKey, storeTurn, removedKeys, laidOnto, keyTable, isThere}
 use Rattle.commit.specs.RowLaws.{paste-onto}
-use Rattle.commit.specs.WalkLaws.{end-after, removal-end, walked-both}
+use Rattle.log.specs.WalkLaws.{end-after, removal-end, walked-both}
 
 -- ## One key more
 

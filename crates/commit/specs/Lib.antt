@@ -9,7 +9,6 @@ pub mod WalkLaws
 pub mod KeyLaws
 pub mod TableLaws
 pub mod Laid
-pub mod RecordLaws
 pub mod Removals
 pub mod BookLaws
 pub mod CommitLaws

@@ -17,7 +17,7 @@ use Rattle.model.specs.Laws.Iter.{iter-agree}
 use Rattle.log.specs.Log.{placeOf}
 use Rattle.tables.specs.Tables.{infoOf}
 use Rattle.commit.specs.Walk.{removeTurn, removed}
-use Rattle.commit.specs.RecordLaws.{Sized, recordsOf, size-is, its-size, removal-is, words-are, walk-records}
+use Rattle.log.specs.RecordLaws.{Sized, recordsOf, size-is, its-size, removal-is, words-are, walk-records}
 
 -- ## Rows of which p is false
 

@@ -5,7 +5,6 @@ mod records;
 mod removals;
 mod rows;
 
-pub use records::end_of;
 ghost use mathlib.Core.Path.{_≡_};
 ghost use mathlib.Core.Bool.{false, _||_};
 ghost use Prim.Native.Nat.{ℕ, _<_, _≤_};

@@ -6,25 +6,12 @@ ghost use lib.ListN.{length};
 ghost use Rattle.tables.specs.Tables.{infoOf};
 ghost use Rattle.commit.specs.Rows.{Rows, Sound, Stand};
 ghost use Rattle.commit.specs.Indexed.{indexFor, IndexedRows};
-ghost use Rattle.commit.specs.Walk.{endOf, anyRemoval, isInsertion, insertRow, inserted};
+ghost use Rattle.log.specs.Walk.{isInsertion};
+ghost use Rattle.commit.specs.Walk.{anyRemoval, insertRow, inserted};
 use crate::rows;
 use crate::rows::Part;
 use ids::TableId;
 use tables::TableInfo;
-
-// The word past the record at p: its kind and its table, then a key if it is a removal, else a row.
-pub fn end_of(words: &[u32], log: &[u32], p: usize) -> usize
-    requires { ⌜ p ≤ length (now log) ⌝ }
-    ensures { λ r. ⌜ r ≡ endOf (now (words .entry)) (now (log .entry)) p ⌝ }
-{
-    let kind = words::word(log, p);
-    let info = tables::info_of(words, TableId(words::word(log, p + 1)));
-    if kind == 1 {
-        p + 2 + info.keys
-    } else {
-        p + 2 + info.width
-    }
-}
 
 // Whether some record is a removal.
 pub fn any_removal(words: &[u32], log: &[u32]) -> bool
@@ -32,11 +19,11 @@ pub fn any_removal(words: &[u32], log: &[u32]) -> bool
 {
     let mut any = false;
     let mut p = 0;
-    let mut end = end_of(words, log, 0);
+    let mut end = log::end_of(words, log, 0);
     while end <= log.len() {
         any = any | (words::word(log, p) == 1);
         p = end;
-        end = end_of(words, log, p);
+        end = log::end_of(words, log, p);
     }
     any
 }
@@ -82,11 +69,11 @@ pub fn insert_all(
 {
     let mut part = start;
     let mut p = 0;
-    let mut end = end_of(words, log, 0);
+    let mut end = log::end_of(words, log, 0);
     while end <= log.len() {
         part = insert(log, p, t, info, rows, index, part);
         p = end;
-        end = end_of(words, log, p);
+        end = log::end_of(words, log, p);
     }
     part
 }

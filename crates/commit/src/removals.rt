@@ -7,9 +7,9 @@ ghost use lib.ListN.{length};
 ghost use Rattle.tables.specs.Tables.{infoOf, Stands, RowsStand};
 ghost use Rattle.hash_index.specs.Index.{IndexOf};
 ghost use Rattle.commit.specs.Rows.{Rows, Stand};
-ghost use Rattle.commit.specs.Walk.{anyRemoval, isRemoval, Keys, storeTurn, removedKeys, laidOnto, goneAfter};
+ghost use Rattle.log.specs.Walk.{isRemoval};
+ghost use Rattle.commit.specs.Walk.{anyRemoval, Keys, storeTurn, removedKeys, laidOnto, goneAfter};
 ghost use Rattle.commit.specs.Commit.{kept, spareRow, spared};
-use crate::records;
 use crate::rows;
 use crate::rows::Part;
 use ids::TableId;
@@ -40,11 +40,11 @@ fn gather_all(words: &[u32], log: &[u32], t: TableId, k: usize, gone: &mut [u32]
 {
     let mut n = 0;
     let mut p = 0;
-    let mut end = records::end_of(words, log, 0);
+    let mut end = log::end_of(words, log, 0);
     while end <= log.len() {
         n = gather(log, p, t, k, gone, n);
         p = end;
-        end = records::end_of(words, log, p);
+        end = log::end_of(words, log, p);
     }
     n
 }

@@ -1,11 +1,14 @@
 -- The end of a run: w is the book's words, p what the steps left.
-use Prim.Native.Nat.{ℕ, _+_, _≤_, _<_, _^_}
+use Prim.Native.Nat.{ℕ, _+_, _-_, _≤_, _<_, _^_}
 use mathlib.Core.Path.{_≡_}
 use mathlib.Core.Bool.{cond}
-use mathlib.Core.List.{List}
-use lib.ListN.{length, take}
+use mathlib.Core.Option.{none, some}
+use mathlib.Core.List.{List, _++_}
+use lib.ListN.{length, take, replicate}
 use Rattle.model.specs.Book.Contents.{firstStep, stepCount, tableCount}
 use Rattle.model.specs.Machine.State.{State}
+use Rattle.model.specs.Answer as model
+use Rattle.model.specs.Outcome.{Lent, ran, committedBy, endRefusal}
 use Rattle.commit.specs.Commit.{Left, committedRows}
 use Rattle.execution.specs.declared.Stop.{Stop}
 use Rattle.execution.specs.declared.Stop.the-variants.{Going, Spent, Full}
@@ -15,8 +18,8 @@ use Rattle.answer.specs.Layout.{Results, leftBy, assembled, assembledLength}
 use Rattle.run.specs.declared.Progress.{Progress}
 use Rattle.run.specs.Progress.{Ran}
 use Rattle.simulation.specs.Runs.{RunIs}
-use Rattle.engine.specs.declared.Outcome.{Outcome}
-use Rattle.engine.specs.declared.Outcome.the-variants.{Accepted, Refused}
+use Rattle.conclude.specs.declared.Outcome.{Outcome}
+use Rattle.conclude.specs.declared.Outcome.the-variants.{Accepted, Refused}
 
 -- what the code may suppose: the run went on to its end as the machine's did
 pub record Settles (w : List ℕ) (p : Progress) (log answer : List ℕ) : Type 0 where
@@ -59,3 +62,8 @@ byStop Full w p log rows answer = record { outcome = Refused 12 (firstStep w + p
 
 unfoldable pub concluded : (w : List ℕ) → Progress → (log rows answer : List ℕ) → Settling
 concluded w p log rows answer = byStop (p .state .stop) w p log rows answer
+
+-- refusals 12, 13, 15 and 16, or the whole answer and zeros
+abbrev pub Concludes : List ℕ → Lent → Outcome → List ℕ → Type 0
+Concludes w l (Refused n p) ws = endRefusal l (firstStep w) (committedBy w (ran w l)) (ran w l) ≡ some (record { number = n; place = p })
+Concludes w l (Accepted n) ws = (endRefusal l (firstStep w) (committedBy w (ran w l)) (ran w l) ≡ none) × (n ≡ length (model.answer (committedBy w (ran w l)) (ran w l))) × (n ≤ l .answer) × (ws ≡ model.answer (committedBy w (ran w l)) (ran w l) ++ replicate (l .answer - n) 0)

@@ -33,10 +33,10 @@ use Rattle.run.specs.Progress.{Ran}
 use Rattle.simulation.specs.Represents.{machine, statusOf, bool-clash}
 use Rattle.simulation.specs.Runs.{RunIs, Runs, sticking, stopped, going-on}
 use Rattle.simulation.specs.Ends as ends
-use Rattle.engine.specs.declared.Outcome.{Outcome}
-use Rattle.engine.specs.declared.Outcome.the-variants.{Accepted, Refused}
-use Rattle.engine.specs.Engine.{Concludes}
-use Rattle.engine.specs.End.{Settling, answeredBy, settled, byStop, byLength, concluded}
+use Rattle.conclude.specs.declared.Outcome.{Outcome}
+use Rattle.conclude.specs.declared.Outcome.the-variants.{Accepted, Refused}
+use Rattle.conclude.specs.End.{Concludes}
+use Rattle.conclude.specs.End.{Settling, answeredBy, settled, byStop, byLength, concluded}
 
 -- what the machine leaves is what its run over all steps leaves
 pub ran-is : (w : List ℕ) (l : Lent) → ran w l ≡ machine.run (machine w (l .log)) (counters w) (steps w) (stepCount w)

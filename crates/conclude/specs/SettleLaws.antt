@@ -17,9 +17,9 @@ use Rattle.answer.specs.Layout.{Results, leftBy, assembled, assembledLength, En
 use Rattle.run.specs.declared.Progress.{Progress}
 use Rattle.run.specs.Progress.{Ran}
 use Rattle.simulation.specs.Ends as ends
-use Rattle.engine.specs.declared.Outcome.{Outcome}
-use Rattle.engine.specs.declared.Outcome.the-variants.{Refused}
-use Rattle.engine.specs.End.{Settles, Settling, byLength, committedTo, settled, byStop, concluded}
+use Rattle.conclude.specs.declared.Outcome.{Outcome}
+use Rattle.conclude.specs.declared.Outcome.the-variants.{Refused}
+use Rattle.conclude.specs.End.{Settles, Settling, byLength, committedTo, settled, byStop, concluded}
 
 module _ (w : List ℕ) (p : Progress) (log rows answer : List ℕ) (n : ℕ) (n-is : n ≡ tableCount w) (c : Left) (e : c ≡ committedRows w n (take (p .state .used) log) rows) where
   is-left : c ≡ committedRows w (tableCount w) (take (p .state .used) log) rows

@@ -1,5 +1,4 @@
 // The end of a run: refusals 12 and 13 where it stopped; else the commit, refusal 15, the answer, and refusal 16.
-use crate::Outcome;
 use answer::Assembled;
 use execution::Stop;
 use run::Progress;
@@ -8,7 +7,13 @@ ghost use Prim.Native.Nat.{_≤_};
 ghost use lib.ListN.{length};
 ghost use Rattle.model.specs.Book.Contents.{firstStep, tableCount};
 ghost use Rattle.model.specs.Laws.Book.{Readable};
-ghost use Rattle.engine.specs.End.{Settling, Settles, RanOn, byLength, settled, concluded};
+ghost use Rattle.conclude.specs.End.{Settling, Settles, RanOn, byLength, settled, concluded};
+
+// Accepted, with how many words the answer has; or refused by a number of document 01's table, with a place.
+pub enum Outcome {
+    Accepted(usize),
+    Refused(u32, usize),
+}
 
 fn by_length(a: Assembled) -> Outcome
     ensures { λ r. ⌜ r ≡ byLength a ⌝ }

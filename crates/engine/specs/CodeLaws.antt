@@ -20,10 +20,10 @@ use Rattle.book.specs.BookLaws.{book-on}
 use Rattle.run.specs.declared.Progress.{Progress}
 use Rattle.run.specs.Progress.{Ran, ranSteps}
 use Rattle.simulation.specs.Ends.{startProgress}
-use Rattle.engine.specs.declared.Outcome.{Outcome}
-use Rattle.engine.specs.declared.Outcome.the-variants.{Refused}
-use Rattle.engine.specs.Engine.{lentOf, lengthsFit, Runnable, Concludes, Decided, outcomeOf, AnswerLeft, keptAnswer}
-use Rattle.engine.specs.End.{RanOn, Settling, concluded}
+use Rattle.conclude.specs.declared.Outcome.{Outcome}
+use Rattle.conclude.specs.declared.Outcome.the-variants.{Refused}
+use Rattle.engine.specs.Engine.{lentOf, lengthsFit, Runnable, Decided, outcomeOf, AnswerLeft, keptAnswer}
+use Rattle.conclude.specs.End.{Concludes, RanOn, Settling, concluded}
 use Rattle.engine.specs.EngineLaws.{all-read, runnable, ran-on, run-concludes, decided-book, decided-run, permitted, answer-left}
 
 -- ## The lengths

@@ -1,5 +1,5 @@
 -- What the engine returns and leaves, in the terms of document 01.
-use Prim.Native.Nat.{ℕ, _+_, _-_, _*_, _≤_, min}
+use Prim.Native.Nat.{ℕ, _-_, _≤_}
 use mathlib.Core.Path.{_≡_}
 use mathlib.Core.Logic.{_≢_}
 use mathlib.Core.Bool.{Bool, _&&_}
@@ -7,17 +7,16 @@ use mathlib.Core.Option.{Option, none, some}
 use mathlib.Core.List.{List, _++_}
 use lib.Dec.{eqb, leb}
 use lib.ListN.{length, take, drop, replicate}
-use Rattle.model.specs.Book.Contents.{firstStep}
 use Rattle.model.specs.Book.Read.{counters, steps, stepsRefusal}
 use Rattle.model.specs.Machine.State.{stuck}
 use Rattle.model.specs.Machine.Steps as machine
 use Rattle.model.specs.Answer as model
-use Rattle.model.specs.Outcome.{Lent, accepted, refused, ran, committedBy, endRefusal, left, committed, refusal}
+use Rattle.model.specs.Outcome.{Lent, accepted, refused, left, committed, refusal}
 use Rattle.model.specs.Outcome as outcome
 use Rattle.model.specs.Laws.Book.{Readable}
 use Rattle.simulation.specs.Represents.{machine}
-use Rattle.engine.specs.declared.Outcome.{Outcome}
-use Rattle.engine.specs.declared.Outcome.the-variants.{Accepted, Refused}
+use Rattle.conclude.specs.declared.Outcome.{Outcome}
+use Rattle.conclude.specs.declared.Outcome.the-variants.{Accepted, Refused}
 
 -- the lengths of what is lent
 abbrev pub lentOf : (bindings index log tables answer : List ℕ) → Lent
@@ -41,17 +40,6 @@ abbrev pub keptAnswer : Outcome → List ℕ → List ℕ
 keptAnswer (Accepted n) ws = ws
 keptAnswer (Refused n p) ws = replicate (length ws) 0
 
--- ## For other languages
-
--- the number in the high half, 0 where the book is accepted; its place or the answer's word count in the low half
-abbrev pub packed : Outcome → ℕ
-packed (Accepted n) = min n 4294967295
-packed (Refused n p) = n * 4294967296 + min p 4294967295
-
--- what is returned so, and left in the answer
-abbrev pub Returned : Lent → List ℕ → ℕ → List ℕ → Type 0
-Returned l book r ws = (o : Outcome) × (r ≡ packed o) × outcome.Permitted l book (outcomeOf o ws) × AnswerLeft o (l .answer) ws
-
 -- ## On the way
 
 -- the words of a book that draws none of refusals 1 to 11
@@ -59,11 +47,6 @@ pub record Runnable (w : List ℕ) : Type 0 where
   pub readable : Readable w
   pub noSteps : stepsRefusal w ≡ none
   pub unstuck : (L n : ℕ) → machine.run (machine w L) (counters w) (steps w) n .status ≢ stuck
-
--- refusals 12, 13, 15 and 16, or the whole answer and zeros
-abbrev pub Concludes : List ℕ → Lent → Outcome → List ℕ → Type 0
-Concludes w l (Refused n p) ws = endRefusal l (firstStep w) (committedBy w (ran w l)) (ran w l) ≡ some (record { number = n; place = p })
-Concludes w l (Accepted n) ws = (endRefusal l (firstStep w) (committedBy w (ran w l)) (ran w l) ≡ none) × (n ≡ length (model.answer (committedBy w (ran w l)) (ran w l))) × (n ≤ l .answer) × (ws ≡ model.answer (committedBy w (ran w l)) (ran w l) ++ replicate (l .answer - n) 0)
 
 -- a refusal, or the whole answer and zeros
 abbrev pub Decided : Lent → List ℕ → Outcome → List ℕ → Type 0

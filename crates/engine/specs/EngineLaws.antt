@@ -28,11 +28,11 @@ use Rattle.run.specs.Progress.{Ran, ranSteps}
 use Rattle.simulation.specs.Represents.{machine, bool-clash}
 use Rattle.simulation.specs.Runs.{RunIs, Runs, sticking, stopped, going-on, run-follows}
 use Rattle.simulation.specs.Ends.{startProgress, starts, never-stuck}
-use Rattle.engine.specs.declared.Outcome.{Outcome}
-use Rattle.engine.specs.declared.Outcome.the-variants.{Accepted, Refused}
-use Rattle.engine.specs.Engine.{lengthsFit, outcomeOf, AnswerLeft, keptAnswer, Runnable, Concludes, Decided}
-use Rattle.engine.specs.End.{Settles, RanOn, Settling, concluded}
-use Rattle.engine.specs.EndLaws.{ran-is, concludes}
+use Rattle.conclude.specs.declared.Outcome.{Outcome}
+use Rattle.conclude.specs.declared.Outcome.the-variants.{Accepted, Refused}
+use Rattle.engine.specs.Engine.{lengthsFit, outcomeOf, AnswerLeft, keptAnswer, Runnable, Decided}
+use Rattle.conclude.specs.End.{Concludes, Settles, RanOn, Settling, concluded}
+use Rattle.conclude.specs.EndLaws.{ran-is, concludes}
 
 -- ## The book
 

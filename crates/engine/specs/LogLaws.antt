@@ -13,7 +13,7 @@ use Rattle.model.specs.Book.Contents.{firstStep, stepCount}
 use Rattle.model.specs.Machine.State.{State, stuck}
 use Rattle.model.specs.Outcome.{Lent, lentRefusal, wordsRefusal, bookRefusal, endRefusal, refusal, left, committed}
 use Rattle.model.specs.Laws.Logic.{none-some, seq-none, unless-none}
-use Rattle.commit.specs.RecordLaws.{Sized}
+use Rattle.log.specs.RecordLaws.{Sized}
 use Rattle.execution.specs.declared.Stop.{Stop}
 use Rattle.execution.specs.declared.Stop.the-variants.{Going, Spent, Full}
 use Rattle.execution.specs.Execution.{goesOn}
@@ -21,7 +21,7 @@ use Rattle.run.specs.Progress.{Ran}
 use Rattle.simulation.specs.Represents.{statusOf, bool-clash}
 use Rattle.simulation.specs.Runs.{Runs, sticking, stopped, going-on}
 use Rattle.engine.specs.Engine.{lengthsFit, Runnable}
-use Rattle.engine.specs.EndLaws.{ran-is}
+use Rattle.conclude.specs.EndLaws.{ran-is}
 use Rattle.engine.specs.EngineLaws.{runnable, followed}
 use Rattle.engine.specs.CodeLaws.{true-fit}
 

@@ -1,6 +1,5 @@
 // The engine: a book of bytes is run to its end, or refused with a number and a place.
-mod end;
-
+use conclude::Outcome;
 use contents::Sizes;
 use counter::Counters;
 use execution::ExecutionState;
@@ -9,7 +8,7 @@ use rules::Verdict;
 use run::Progress;
 ghost use mathlib.Core.Path.{_≡_};
 ghost use mathlib.Core.Option.{none};
-ghost use Prim.Native.Nat.{_≤_, min};
+ghost use Prim.Native.Nat.{_≤_};
 ghost use lib.ListN.{length, replicate};
 ghost use Rattle.model.specs.Book.Words.{bytesRefusal, wordsOf};
 ghost use Rattle.model.specs.Book.Read as read;
@@ -18,13 +17,8 @@ ghost use Rattle.model.specs.Laws.Book.{Readable};
 ghost use Rattle.contents.specs.Contents.{SizesOf};
 ghost use Rattle.counter.specs.CounterLaws.{padded};
 ghost use Rattle.simulation.specs.Ends.{startProgress};
-ghost use Rattle.engine.specs.Engine.{lentOf, lengthsFit, Runnable, Concludes, Decided, outcomeOf, AnswerLeft, keptAnswer, packed, Returned};
-
-// Accepted, with how many words the answer has; or refused by a number of document 01's table, with a place.
-pub enum Outcome {
-    Accepted(usize),
-    Refused(u32, usize),
-}
+ghost use Rattle.conclude.specs.End.{Concludes};
+ghost use Rattle.engine.specs.Engine.{lentOf, lengthsFit, Runnable, Decided, outcomeOf, AnswerLeft, keptAnswer};
 
 // The book's counters, 0 past the last.
 fn counters_of(words: &[u32], z: Sizes) -> Counters
@@ -91,7 +85,7 @@ fn run_book(
         index,
         answer,
     );
-    end::conclude(words, first, count, p, log, tables, answer)
+    conclude::conclude(words, first, count, p, log, tables, answer)
 }
 
 // A book that refusal 1 passes, loaded into `words`: refusals 2 to 11, and then its run.
@@ -199,39 +193,4 @@ pub fn run(
     words::clear(tables);
     keep_or_clear(outcome, answer);
     outcome
-}
-
-// A number as the low half of a result. No answer and no place comes near the limit.
-fn low_half(n: usize) -> u64
-    ensures { λ r. ⌜ r ≡ min n 4294967295 ⌝ }
-{
-    if n < 4294967295 { n as u64 } else { 4294967295 }
-}
-
-fn pack(outcome: Outcome) -> u64
-    ensures { λ r. ⌜ r ≡ packed outcome ⌝ }
-{
-    match outcome {
-        Outcome::Accepted(n) => low_half(n),
-        Outcome::Refused(number, place) => (number as u64) * 4294967296 + low_half(place),
-    }
-}
-
-// The same for C and Rust: the refusal's number in the high half, 0 where the book is accepted, and its place or the answer's word count in the low half.
-#[no_mangle]
-pub extern "C" fn dispatch_run(
-    book: &[u8],
-    bindings: &mut [u32],
-    index: &mut [u32],
-    log: &mut [u32],
-    tables: &mut [u32],
-    answer: &mut [u32],
-) -> u64
-    ensures outcome { λ r. ⌜ Returned (lentOf (now (bindings .entry)) (now (index .entry)) (now (log .entry)) (now (tables .entry)) (now (answer .entry))) (now (book .entry)) r (now (answer .exit)) ⌝ }
-    ensures bindings { λ _. ⌜ now (bindings .exit) ≡ replicate (length (now (bindings .entry))) 0 ⌝ }
-    ensures index { λ _. ⌜ now (index .exit) ≡ replicate (length (now (index .entry))) 0 ⌝ }
-    ensures log { λ _. ⌜ now (log .exit) ≡ replicate (length (now (log .entry))) 0 ⌝ }
-    ensures tables { λ _. ⌜ now (tables .exit) ≡ replicate (length (now (tables .entry))) 0 ⌝ }
-{
-    pack(run(book, bindings, index, log, tables, answer))
 }

@@ -18,11 +18,11 @@ use Rattle.model.specs.Machine.State.{Record, recordSize, logWords}
 use Rattle.model.specs.Answer.{recordWords}
 use Rattle.model.specs.Commit.{removal, insertion}
 use Rattle.model.specs.Laws.Logic.{none-some, some-inj, at-length, All-at}
 use Rattle.log.specs.Log.{logOf, placeOf}
 use Rattle.log.specs.LogLaws.{length-records, record-within, kind-at, table-at, row-at}
 use Rattle.tables.specs.Tables.{infoOf}
-use Rattle.commit.specs.Walk.{endOf, walked, isRemoval, isInsertion}
-use Rattle.commit.specs.WalkLaws.{Reached, reached-none, reached-more, reached-end, end-after}
+use Rattle.log.specs.Walk.{endOf, walked, isRemoval, isInsertion}
+use Rattle.log.specs.WalkLaws.{Reached, reached-none, reached-more, reached-end, end-after}
 use Rattle.model.specs.Laws.Book.{table-is}
 
 -- a record of a table of the book, with as many words as its kind asks for

@@ -1,10 +1,12 @@
-// The log: records of kind, table and words, one after the other, appended up to the end of the words that are lent for it.
+// The log: records of kind, table and words, one after the other, appended up to the end of the words that are lent for it; and where each ends.
 ghost use mathlib.Core.Path.{_≡_};
 ghost use Prim.Native.Nat.{_+_, _≤_};
 ghost use lib.ListN.{length, getD};
 ghost use lib.Seq.{sets};
 ghost use Rattle.model.specs.Basics.{tab};
 ghost use Rattle.log.specs.Log.{recordOf, appended, stored};
+ghost use Rattle.log.specs.Walk.{endOf};
+use ids::TableId;
 
 // How many words are used after a record was appended; or there is no room for it.
 pub enum Appended {
@@ -29,7 +31,7 @@ pub fn append(
     log: &mut [u32],
     used: usize,
     kind: u32,
-    table: ids::TableId,
+    table: TableId,
     row: &[u32; 16],
     count: usize,
 ) -> Appended
@@ -45,4 +47,18 @@ pub fn append(
     log[used + 1] = table.0;
     store(log, used + 2, row, count);
     Appended::Used(end)
+}
+
+// The word past the record at p: its kind and its table, then a key if it is a removal, else a row.
+pub fn end_of(words: &[u32], log: &[u32], p: usize) -> usize
+    requires { ⌜ p ≤ length (now log) ⌝ }
+    ensures { λ r. ⌜ r ≡ endOf (now (words .entry)) (now (log .entry)) p ⌝ }
+{
+    let kind = words::word(log, p);
+    let info = tables::info_of(words, TableId(words::word(log, p + 1)));
+    if kind == 1 {
+        p + 2 + info.keys
+    } else {
+        p + 2 + info.width
+    }
 }

@@ -12,7 +12,6 @@ ghost use Rattle.reader.specs.Places.{BodyAt};
 
 mod bodies;
 mod instructions;
-mod reader;
 mod rows;
 mod scan;
 

@@ -3,7 +3,6 @@ ghost use mathlib.Core.Path.{_≡_};
 ghost use Prim.Native.Nat.{_+_};
 ghost use Rattle.model.specs.Book.Scan as spec;
 ghost use Rattle.reader.specs.Values.{drawOf, testOf, scanOf};
-use crate::reader;
 
 const STALE: u32 = 4294967295;
 
@@ -92,7 +91,7 @@ pub fn peek(words: &[u32], s: Scan) -> u32
         Scan::Bad => 0,
         Scan::Good { at, .. } => {
             if at < words.len() {
-                let t = reader::take(words, at);
+                let t = cursor::take(words, at);
                 return t.word;
             }
             0
@@ -108,7 +107,7 @@ pub fn word(end: usize, words: &[u32], test: Test, s: Scan) -> Scan
         Scan::Bad => Scan::Bad,
         Scan::Good { at, absent, stale } => {
             if at < end {
-                let t = reader::take(words, at);
+                let t = cursor::take(words, at);
                 mark(drawn(test, t.word), at, t.next, absent, stale)
             } else {
                 Scan::Bad

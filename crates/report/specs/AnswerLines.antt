@@ -22,8 +22,8 @@ use Rattle.model.specs.Answer.{Body, tableBody, counterBody, stepBody, logBody,
 use Rattle.model.specs.Printed.{Line, run, row, ins, del, changed, table, counter, stepLine, stepLines, recordLine as lineOf, recordLines as linesOf, tableLines, counterLines}
 use Rattle.log.specs.Log.{logOf, placeOf}
 use Rattle.log.specs.LogLaws.{kind-at, table-at}
-use Rattle.commit.specs.Walk.{endOf}
-use Rattle.commit.specs.RecordLaws.{Sized, size-is, recordsOf, words-are, walk-records}
+use Rattle.log.specs.Walk.{endOf}
+use Rattle.log.specs.RecordLaws.{Sized, size-is, recordsOf, words-are, walk-records}
 use Rattle.report.specs.declared.lines.Family.{Family}
 use Rattle.report.specs.declared.lines.Family.the-variants.{Steps, Tables, Counters}
 use Rattle.report.specs.Lines.{numbered, recordLine, bodyOf, entryLine, familyLines, logBody as lastBody, recordLines, logLines, answerLines}

@@ -7,7 +7,7 @@ use lib.ListN.{length, getD, drop}
 use Rattle.model.specs.Book.Contents.{count, kindOf, firstOf, lengthOf}
 use Rattle.model.specs.Book.Decode.{part}
 use Rattle.model.specs.Printed.{Line, run, row, ins, del, changed, table, counter}
-use Rattle.commit.specs.Walk.{endOf, walked}
+use Rattle.log.specs.Walk.{endOf, walked}
 use Rattle.report.specs.declared.lines.Family.{Family}
 use Rattle.report.specs.declared.lines.Family.the-variants.{Steps, Tables, Counters}
 use Rattle.report.specs.declared.lines.Lines.{Lines}

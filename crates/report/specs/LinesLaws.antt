@@ -13,7 +13,7 @@ use Rattle.model.specs.Basics.{iter}
 use Rattle.model.specs.Book.Contents.{kindOf}
 use Rattle.model.specs.Book.Decode.{part}
 use Rattle.model.specs.Printed.{Line, changed}
-use Rattle.commit.specs.Walk.{Walk, pass, start, walked, endOf}
+use Rattle.log.specs.Walk.{Walk, pass, start, walked, endOf}
 use Rattle.report.specs.declared.lines.Family.{Family}
 use Rattle.report.specs.declared.lines.Family.the-variants.{Steps, Tables, Counters}
 use Rattle.report.specs.declared.lines.Lines.{Lines}

@@ -18,7 +18,7 @@ use Rattle.model.specs.Outcome.{Lent, Outcome, refused, accepted, left, committ
 use Rattle.model.specs.Printed.{Line, refused as refusedLine, table, changed, stepLines, recordLines, tableLines, counterLines, printed}
 use Rattle.model.specs.Laws.Logic.{All-map}
 use Rattle.model.specs.Laws.Lists.{length-tab}
-use Rattle.commit.specs.RecordLaws.{Sized}
+use Rattle.log.specs.RecordLaws.{Sized}
 use Rattle.report.specs.Text.{text}
 use Rattle.report.specs.Lines.{answerLines}
 use Rattle.report.specs.AnswerLines.{Fits, answer-lines}

@@ -150,11 +150,11 @@ fn records(words: &[u32], log: &[u32], out: &mut [u8], at: usize) -> usize
 {
     let mut next = at;
     let mut p = 0;
-    let mut end = commit::end_of(words, log, 0);
+    let mut end = log::end_of(words, log, 0);
     while end <= log.len() {
         next = record_line(log, p, end, out, next);
         p = end;
-        end = commit::end_of(words, log, p);
+        end = log::end_of(words, log, p);
     }
     next
 }

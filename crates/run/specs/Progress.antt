@@ -11,7 +11,7 @@ use Rattle.execution.specs.Execution.{isGoing}
 use Rattle.predict.specs.Predict.{Gotten}
 use Rattle.action.specs.Run.{Running}
 use Rattle.steps.specs.Steps.{ranBatch, askedRow, rowAnswered}
-use Rattle.answer.specs.Steps.{placed, batchWords, predictionWords}
+use Rattle.step_bodies.specs.Steps.{placed, batchWords, predictionWords}
 use Rattle.run.specs.declared.Progress.{Progress}
 
 -- what the run keeps, with the memory that it runs in

@@ -23,7 +23,7 @@ use Rattle.action.specs.Run as action
 use Rattle.action.specs.Run.{Running, ranInstr, ranInstrs}
 use Rattle.steps.specs.Steps.{IsStep, laneCount, startBatch, ruleOf, ranBatch, rowAsked, keyAsked, rowAnswered}
 use Rattle.steps.specs.StepsLaws.{lane-count-most, batch-facts, prediction-facts}
-use Rattle.answer.specs.Steps.{placed}
+use Rattle.step_bodies.specs.Steps.{placed}
 use Rattle.run.specs.declared.Progress.{Progress}
 use Rattle.run.specs.Progress.{Ran, halted, told, bodyOf, batchTold, rowBody, rowTold, batchStep, predictionStep, ranNext}
 

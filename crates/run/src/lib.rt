@@ -68,7 +68,7 @@ fn batch_step(
     let batch = steps::run_batch(words, committed, base, i, before, bindings, log, index);
     let state = batch.state;
     if state.going() {
-        let end = answer::steps::write_batch(bindings, batch.bindings, batch.mask, p.at, answer);
+        let end = step_bodies::write_batch(bindings, batch.bindings, batch.mask, p.at, answer);
         return advance(p, state, end);
     }
     halt(p, state)
@@ -94,7 +94,7 @@ fn prediction_step(
     let after = got.state;
     if after.going() {
         let row = steps::row_answered(words, log, committed, index, i);
-        let end = answer::steps::write_prediction(row, got.made, p.at, answer);
+        let end = step_bodies::write_prediction(row, got.made, p.at, answer);
         return advance(p, after, end);
     }
     halt(p, after)

@@ -1,29 +1,15 @@
 // Runs the sample of the differential runs, read on standard input, and prints how many of its books came out as the sample says. harness/README.md has the format.
-use engine::Outcome;
+use conclude::Outcome;
 use libc::STDIN_FILENO;
 use libc::STDOUT_FILENO;
-ghost use mathlib.Core.Path.{_≡_};
-ghost use mathlib.Core.Bool.{true};
-ghost use Prim.Native.Nat.{ℕ, _+_, _≤_, _<_};
-ghost use lib.ListN.{length, getD};
-ghost use Rattle.model.specs.Book.Words.{wordsOf};
-
-// Word i of the sample, or 0 past its end.
-fn word(sample: &[u8], i: usize) -> usize
-    ensures { λ r. ⌜ (r ≡ getD (wordsOf (now (sample .entry))) i 0) × (r < 4294967296) ⌝ }
-{
-    if i < sample.len() / 4 {
-        words::size(words::word_at(sample, i))
-    } else {
-        0
-    }
-}
+ghost use Prim.Native.Nat.{_≤_};
+ghost use lib.ListN.{length};
 
 // How many words of memory the sample's word i lends. There is room for 20480, and no book of the sample asks for more.
 fn lent(sample: &[u8], i: usize) -> usize
     ensures { λ r. ⌜ r ≤ 20480 ⌝ }
 {
-    let n = word(sample, i);
+    let n = words::size_in(sample, i);
     if n <= 20480 { n } else { 20480 }
 }
 
@@ -42,7 +28,7 @@ fn book_words(sample: &[u8], p: usize) -> usize
     requires { ⌜ p ≤ 524288 ⌝ }
     ensures { λ r. ⌜ r ≤ 1073741824 ⌝ }
 {
-    (word(sample, p + 5) + 3) / 4
+    (words::size_in(sample, p + 5) + 3) / 4
 }
 
 // How many words the book at word p takes up: eight of head, its bytes, and the answer's words where it is accepted.
@@ -51,39 +37,11 @@ fn size_at(sample: &[u8], p: usize) -> usize
     ensures { λ r. ⌜ r ≤ 8589934592 ⌝ }
 {
     let book = 8 + book_words(sample, p);
-    if word(sample, p + 6) == 0 {
-        book + word(sample, p + 7)
+    if words::size_in(sample, p + 6) == 0 {
+        book + words::size_in(sample, p + 7)
     } else {
         book
     }
-}
-
-fn all_zero(words: &[u32]) -> bool
-    ensures { λ r. ⌜ (r ≡ true → (i : ℕ) → i < length (now (words .entry)) → getD (now (words .entry)) i 0 ≡ 0) ⌝ }
-{
-    let mut i = 0;
-    while i < words.len() {
-        if words[i] != 0 {
-            return false;
-        }
-        i += 1;
-    }
-    true
-}
-
-// Whether the sample's words from `at` on are those of the answer.
-fn same_words(sample: &[u8], at: usize, answer: &[u32]) -> bool
-    requires { ⌜ (at ≤ 4294967296) × (length (now answer) ≤ 20480) ⌝ }
-    ensures { λ r. ⌜ (r ≡ true → (i : ℕ) → i < length (now (answer .entry)) → getD (wordsOf (now (sample .entry))) (at + i) 0 ≡ getD (now (answer .entry)) i 0) ⌝ }
-{
-    let mut i = 0;
-    while i < answer.len() {
-        if word(sample, at + i) != words::size(answer[i]) {
-            return false;
-        }
-        i += 1;
-    }
-    true
 }
 
 // Whether an answer of n words is the one that the sample has from `at` on, and what is lent past it is zero.
@@ -91,7 +49,7 @@ fn same_answer(sample: &[u8], at: usize, answer: &[u32], n: usize) -> bool
     requires { ⌜ (at ≤ 4294967296) × (length (now answer) ≤ 20480) ⌝ }
 {
     if n <= answer.len() {
-        same_words(sample, at, &answer[..n]) & all_zero(&answer[n..])
+        words::same_words(sample, at, &answer[..n]) & words::all_zero(&answer[n..])
     } else {
         false
     }
@@ -101,15 +59,15 @@ fn same_answer(sample: &[u8], at: usize, answer: &[u32], n: usize) -> bool
 fn agrees(sample: &[u8], p: usize, outcome: Outcome, answer: &[u32]) -> bool
     requires { ⌜ (p ≤ 524288) × (length (now answer) ≤ 20480) ⌝ }
 {
-    let number = word(sample, p + 6);
-    let place = word(sample, p + 7);
+    let number = words::size_in(sample, p + 6);
+    let place = words::size_in(sample, p + 7);
     match outcome {
         Outcome::Accepted(n) => {
             let at = p + 8 + book_words(sample, p);
             (number == 0) & (place == n) & same_answer(sample, at, answer, n)
         }
         Outcome::Refused(k, q) => {
-            (number != 0) & (number == words::size(k)) & (place == q) & all_zero(answer)
+            (number != 0) & (number == words::size(k)) & (place == q) & words::all_zero(answer)
         }
     }
 }
@@ -126,9 +84,12 @@ fn run_at(
 ) -> bool
     requires { ⌜ (p ≤ 524288) × (length (now answer) ≤ 20480) ⌝ }
 {
-    let book = part(sample, 4 * (p + 8), word(sample, p + 5));
+    let book = part(sample, 4 * (p + 8), words::size_in(sample, p + 5));
     let outcome = engine::run(book, bindings, index, log, tables, answer);
-    let zero = all_zero(bindings) & all_zero(index) & all_zero(log) & all_zero(tables);
+    let zero = words::all_zero(bindings)
+        & words::all_zero(index)
+        & words::all_zero(log)
+        & words::all_zero(tables);
     zero & agrees(sample, p, outcome, answer)
 }
 
@@ -179,7 +140,7 @@ fn count(sample: &[u8], n: usize) -> u64
 fn print(sample: &[u8])
     requires { ⌜ length (now sample) ≤ 524288 ⌝ }
 {
-    let n = word(sample, 0);
+    let n = words::size_in(sample, 0);
     io::print_decimal(STDOUT_FILENO, count(sample, n));
     io::write_all(STDOUT_FILENO, b" of ");
     io::print_decimal(STDOUT_FILENO, n as u64);

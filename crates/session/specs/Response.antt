@@ -11,9 +11,9 @@ use Rattle.model.specs.Outcome.{Lent, Permitted, refusal, left}
 use Rattle.model.specs.Printed.{printed}
 use Rattle.model.specs.Claims.Cases.{dispatchLends}
 use Rattle.model.specs.Laws.Logic.{All-left}
-use Rattle.commit.specs.RecordLaws.{Sized}
-use Rattle.engine.specs.declared.Outcome.{Outcome}
-use Rattle.engine.specs.declared.Outcome.the-variants.{Accepted, Refused}
+use Rattle.log.specs.RecordLaws.{Sized}
+use Rattle.conclude.specs.declared.Outcome.{Outcome}
+use Rattle.conclude.specs.declared.Outcome.the-variants.{Accepted, Refused}
 use Rattle.engine.specs.Engine.{lentOf, outcomeOf, AnswerLeft}
 use Rattle.engine.specs.EngineLaws.{all-read}
 use Rattle.engine.specs.LogLaws.{log-sized}

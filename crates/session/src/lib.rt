@@ -10,7 +10,7 @@ ghost use Rattle.model.specs.Claims.Cases.{dispatchLends};
 ghost use Rattle.engine.specs.Engine.{outcomeOf};
 ghost use Rattle.report.specs.Text.{text, upTo, appended};
 ghost use Rattle.report.specs.Prints.{outcomeLines};
-use engine::Outcome;
+use conclude::Outcome;
 use input::Input;
 
 // The first n bytes, or all where there are fewer.

@@ -31,7 +31,7 @@ use Rattle.predicted.specs.Home.{homeOf}
 use Rattle.predicted.specs.HomeLaws.{home-below}
 use Rattle.predicted.specs.RightLaws.{none-ok}
 use Rattle.commit.specs.Commit.{Left, committedRows}
-use Rattle.commit.specs.RecordLaws.{recordsOf}
+use Rattle.log.specs.RecordLaws.{recordsOf}
 use Rattle.commit.specs.CommitLaws.{over-is}
 use Rattle.execution.specs.declared.Stop.the-variants.{Going}
 use Rattle.execution.specs.declared.ExecutionState.{ExecutionState}

@@ -39,7 +39,7 @@ use Rattle.instr.specs.Instr.{writeAt}
 use Rattle.instr.specs.Meaning.{writesOf}
 use Rattle.build.specs.declared.Building.{Building}
 use Rattle.build.specs.Build as code
-use Rattle.commit.specs.RecordLaws.{Sized}
+use Rattle.log.specs.RecordLaws.{Sized}
 use Rattle.execution.specs.declared.Stop.the-variants.{Going, Spent, Full}
 use Rattle.execution.specs.declared.ExecutionState.{ExecutionState}
 use Rattle.execution.specs.Execution.{goesOn, Logged, staged, afterAppend}

@@ -33,7 +33,7 @@ use Rattle.bindings.specs.BindingLaws.{Named, fetch-is}
 use Rattle.instr.specs.declared.Entries.{Entries}
 use Rattle.instr.specs.Meaning.{entriesOf}
 use Rattle.lanes.specs.Lanes.{listed}
-use Rattle.commit.specs.RecordLaws.{Sized}
+use Rattle.log.specs.RecordLaws.{Sized}
 use Rattle.execution.specs.declared.Stop.{Stop}
 use Rattle.execution.specs.declared.Stop.the-variants.{Going, Spent, Full}
 use Rattle.execution.specs.declared.ExecutionState.{ExecutionState}

@@ -35,9 +35,9 @@ use Rattle.steps.specs.Steps.{IsStep, ranBatch, askedRow}
 use Rattle.steps.specs.StepsLaws.{batch-facts, columns-within, prediction-facts, writes-within}
 use Rattle.answer.specs.Layout.{stepKind}
 use Rattle.answer.specs.AnswerLaws.{stepWords}
-use Rattle.answer.specs.Steps.{placed, batchWords}
+use Rattle.step_bodies.specs.Steps.{placed, batchWords}
 use Rattle.bindings.specs.Columns.{columnsOf}
-use Rattle.answer.specs.StepLaws as told
+use Rattle.step_bodies.specs.StepLaws as told
 use Rattle.answer.specs.Scratch.{Scratch, scratch-more}
 use Rattle.run.specs.Progress.{Ran, halted, batchTold, rowTold, bodyOf, rowBody, batchStep, predictionStep, ranStep, ranNext, ranSteps}
 use Rattle.run.specs.Progress as flat

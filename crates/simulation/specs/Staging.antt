@@ -36,7 +36,7 @@ use Rattle.instr.specs.declared.QueryEntry.{QueryEntry}
 use Rattle.instr.specs.Meaning.{entryOf, entriesOf}
 use Rattle.lanes.specs.declared.Test.the-variants.{Eq}
 use Rattle.lanes.specs.Lanes.{listed, holds, kept}
-use Rattle.commit.specs.RecordLaws.{Sized}
+use Rattle.log.specs.RecordLaws.{Sized}
 use Rattle.execution.specs.declared.Change.{Change}
 use Rattle.execution.specs.declared.Change.the-variants.{Insert, Remove}
 use Rattle.execution.specs.declared.Stop.the-variants.{Going}

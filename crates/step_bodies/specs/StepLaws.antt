@@ -19,8 +19,8 @@ use Rattle.mask.specs.Masks.{count, padded}
 use Rattle.mask.specs.MaskLaws.{howMany-le, count-padded, has-padded}
 use Rattle.bindings.specs.Columns.{columnsOf}
 use Rattle.bindings.specs.BindingLaws.{column-at}
-use Rattle.answer.specs.Runs.{join-append, join-snoc, runs, runs-none, runs-suc, length-suc}
-use Rattle.answer.specs.Steps.{placed, predictionWords, columnWords, batchWords}
+use Rattle.step_bodies.specs.Runs.{join-append, join-snoc, runs, runs-none, runs-suc, length-suc}
+use Rattle.step_bodies.specs.Steps.{placed, predictionWords, columnWords, batchWords}
 
 module _ (l : List ℕ) (at : ℕ) (b : List ℕ) where
   pub placed-fits : at + length l ≤ length b → sets b at l ≡ placed l at b

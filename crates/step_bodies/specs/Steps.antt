@@ -9,7 +9,7 @@ use Rattle.model.specs.Basics.{tab, howMany}
 use Rattle.model.specs.Book.Decode.{part}
 use Rattle.model.specs.Answer.{flag}
 use Rattle.mask.specs.Masks.{count}
-use Rattle.answer.specs.Runs.{runs}
+use Rattle.step_bodies.specs.Runs.{runs}
 
 -- the words l go into b from the word `at` on, if they fit whole
 unfoldable pub placed : List ℕ → ℕ → List ℕ → List ℕ

@@ -6,9 +6,11 @@ ghost use lib.Seq.{sets};
 ghost use mathlib.Core.Bool.{false};
 ghost use Rattle.model.specs.Basics.{tab, howMany};
 ghost use Rattle.model.specs.Answer as model;
-ghost use Rattle.answer.specs.Runs.{runs};
-ghost use Rattle.answer.specs.Steps.{placed, columnWords, batchWords, predictionWords};
-use crate::put;
+ghost use Rattle.step_bodies.specs.Runs.{runs};
+ghost use Rattle.step_bodies.specs.Steps.{placed, columnWords, batchWords, predictionWords};
+
+pub mod put;
+
 use bindings::Bindings;
 use bound::Bound;
 use ids::Variable;

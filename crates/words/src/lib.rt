@@ -1,10 +1,13 @@
-// Words of a book of bytes, and whole buffers of words: read, cleared, copied.
+// Words of a book of bytes, and whole buffers of words: read, cleared, copied, compared.
 ghost use mathlib.Core.Path.{_≡_};
+ghost use mathlib.Core.Logic.{_↔_};
+ghost use mathlib.Core.Bool.{true};
 ghost use mathlib.Core.List.{_++_};
-ghost use Prim.Native.Nat.{_+_, _*_, _≤_, _<_};
+ghost use Prim.Native.Nat.{ℕ, _+_, _*_, _^_, _≤_, _<_};
 ghost use lib.ListN.{length, getD, replicate};
 ghost use lib.Seq.{paste};
 ghost use Rattle.model.specs.Basics.{tab};
+ghost use Rattle.model.specs.Book.Words.{wordsOf};
 ghost use Rattle.model.specs.Book.Decode.{part};
 ghost use Rattle.model.specs.Laws.Words.{wordAt};
 
@@ -25,6 +28,17 @@ pub fn word_at(book: &[u8], i: usize) -> u32
     let c = wide(book[at + 2]);
     let d = wide(book[at + 3]);
     a + 256 * b + 65536 * c + 16777216 * d
+}
+
+// Word i of the bytes as a size, or 0 past their last whole word.
+pub fn size_in(bytes: &[u8], i: usize) -> usize
+    ensures { λ r. ⌜ (r ≡ getD (wordsOf (now (bytes .entry))) i 0) × (r < 4294967296) ⌝ }
+{
+    if i < bytes.len() / 4 {
+        size(word_at(bytes, i))
+    } else {
+        0
+    }
 }
 
 // All of `words` from the front of `book`.
@@ -97,4 +111,34 @@ pub fn copy(src: &[u32], dst: &mut [u32], at: usize)
         dst[at + i] = src[i];
         i += 1;
     }
+}
+
+// Whether every word is 0.
+pub fn all_zero(words: &[u32]) -> bool
+    ensures { λ r. ⌜ (r ≡ true) ↔ ((i : ℕ) → i < length (now (words .entry)) → getD (now (words .entry)) i 0 ≡ 0) ⌝ }
+{
+    let mut i = 0;
+    while i < words.len() {
+        if words[i] != 0 {
+            return false;
+        }
+        i += 1;
+    }
+    true
+}
+
+// Whether the words of the bytes, from word `at` on, are these.
+pub fn same_words(bytes: &[u8], at: usize, words: &[u32]) -> bool
+    requires { ⌜ at + length (now words) < 2 ^ 64 ⌝ }
+    ensures { λ r. ⌜ (r ≡ true) ↔ ((i : ℕ) → i < length (now (words .entry))
+        → getD (wordsOf (now (bytes .entry))) (at + i) 0 ≡ getD (now (words .entry)) i 0) ⌝ }
+{
+    let mut i = 0;
+    while i < words.len() {
+        if size_in(bytes, at + i) != size(words[i]) {
+            return false;
+        }
+        i += 1;
+    }
+    true
 }

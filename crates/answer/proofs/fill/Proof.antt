@@ -1,6 +1,6 @@
 use Rattle.answer.specs.AssembledLaws.{whole-parts, front-parts, fill-is}
 use Rattle.answer.specs.Layout.{rowsLength, tableWords, resultsOf, bodyCount}
-use Rattle.answer.specs.Runs.{runs}
+use Rattle.step_bodies.specs.Runs.{runs}
 use Rattle.answer.specs.Sums.{sum}
 use lib.Seq.{length-take-le}
 use lib.ListN.{length, take, length-set}

@@ -1,6 +1,6 @@
 use borrow.Author.Needs.{needs}
-use Rattle.engine.proofs.end.by_length.Statement.{statement}
-use Rattle.engine.proofs.end.by_length.Tie as tie
+use Rattle.conclude.proofs.by_length.Statement.{statement}
+use Rattle.conclude.proofs.by_length.Tie as tie
 
 enum-known-a : tie.Need-enum-known-a
 enum-known-a c = search needs

@@ -3,10 +3,10 @@ use native.Mathlib.Omega.{arith}
 use denote.Ref.{now}
 use Rattle.model.specs.Laws.Book.{few-tables, few-counters, few-rules}
 use Rattle.execution.specs.declared.Stop.the-variants.{Going, Spent, Full}
-use Rattle.engine.specs.SettleLaws.{concluded-by}
+use Rattle.conclude.specs.SettleLaws.{concluded-by}
 use borrow.Author.Needs.{needs}
-use Rattle.engine.proofs.end.conclude.Statement.{statement}
-use Rattle.engine.proofs.end.conclude.Tie as tie
+use Rattle.conclude.proofs.conclude.Statement.{statement}
+use Rattle.conclude.proofs.conclude.Tie as tie
 
 settle-requires : tie.Need-settle-requires
 settle-requires c κs =

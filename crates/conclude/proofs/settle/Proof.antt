@@ -4,10 +4,10 @@ use lib.Seq.{length-take-le}
 use denote.Ref.{now}
 use Rattle.model.specs.Laws.Book.{few-tables}
 use Rattle.commit.specs.BookLaws.{ready-table}
-use Rattle.engine.specs.SettleLaws.{settled-over, settled-answer, enough-here}
+use Rattle.conclude.specs.SettleLaws.{settled-over, settled-answer, enough-here}
 use borrow.Author.Needs.{needs}
-use Rattle.engine.proofs.end.settle.Statement.{statement}
-use Rattle.engine.proofs.end.settle.Tie as tie
+use Rattle.conclude.proofs.settle.Statement.{statement}
+use Rattle.conclude.proofs.settle.Tie as tie
 
 slice-aggregate-commit : tie.Need-slice-aggregate-commit
 slice-aggregate-commit c =

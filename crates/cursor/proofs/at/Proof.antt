@@ -30,13 +30,13 @@ use denote.Triple.Spec.{Meets, tripleOf}
 use denote.Triple.Table.{entered}
 use denote.Triple.Walked.{says, Stays, stay-none, walkOf, goes-none, Walks, ends-at, walked, walk-meets}
 use denote.Exit.{yes}
-use Rattle.reader.specs.declared.reader.Reader.{Reader}
-use Rattle.reader.proofs.reader.Reader as T
-use Rattle.reader.proofs.reader.Reader.Laws as T′
-use Rattle.reader.proofs.reader.at.Key.{name as #reader·at}
-use Rattle.reader.proofs.reader.at as at
-use Rattle.reader.proofs.reader.at.Statement as stated
-use Rattle.reader.proofs.reader.at.Code as code
+use Rattle.cursor.specs.declared.Reader.{Reader}
+use Rattle.cursor.proofs.Reader as T
+use Rattle.cursor.proofs.Reader.Laws as T′
+use Rattle.cursor.proofs.at.Key.{name as #reader·at}
+use Rattle.cursor.proofs.at as at
+use Rattle.cursor.proofs.at.Statement as stated
+use Rattle.cursor.proofs.at.Code as code
 
 -- the struct's type, over the signature's lifetimes
 abbrev B : Lfts 1 → RattleType

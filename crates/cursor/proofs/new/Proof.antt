@@ -33,13 +33,13 @@ use denote.Triple.Spec.{Meets, tripleOf}
 use denote.Triple.Table.{entered}
 use denote.Triple.Walked.{says, Stays, stay-none, stay-none-slice, walkOf, goes-none, goes-none-slice, Walks, ends-at, walked, walk-meets}
 use denote.Exit.{yes}
-use Rattle.reader.specs.declared.reader.Reader.{Reader}
-use Rattle.reader.proofs.reader.Reader as T
-use Rattle.reader.proofs.reader.Reader.Laws as T′
-use Rattle.reader.proofs.reader.new.Key.{name as #reader·new}
-use Rattle.reader.proofs.reader.new as new
-use Rattle.reader.proofs.reader.new.Statement as stated
-use Rattle.reader.proofs.reader.new.Code as code
+use Rattle.cursor.specs.declared.Reader.{Reader}
+use Rattle.cursor.proofs.Reader as T
+use Rattle.cursor.proofs.Reader.Laws as T′
+use Rattle.cursor.proofs.new.Key.{name as #reader·new}
+use Rattle.cursor.proofs.new as new
+use Rattle.cursor.proofs.new.Statement as stated
+use Rattle.cursor.proofs.new.Code as code
 
 abbrev stayed : Stays (new.ended .signature .params) (new.ended .kept)
 stayed = (stay-none-slice (0 ∷ []) tt (plain (λ _. u32)) yes, (stay-none (λ _. usize) yes, tt))

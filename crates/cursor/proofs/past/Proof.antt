@@ -33,13 +33,13 @@ use denote.Triple.Spec.{Meets, tripleOf}
 use denote.Triple.Table.{entered}
 use denote.Triple.Walked.{says, needs, Stays, stay-none, walkOf, goes-none, Walks, ends-at, walked, walk-meets}
 use denote.Exit.{yes}
-use Rattle.reader.specs.declared.reader.Reader.{Reader}
-use Rattle.reader.proofs.reader.Reader as T
-use Rattle.reader.proofs.reader.Reader.Laws as T′
-use Rattle.reader.proofs.reader.past.Key.{name as #reader·past}
-use Rattle.reader.proofs.reader.past as past
-use Rattle.reader.proofs.reader.past.Statement as stated
-use Rattle.reader.proofs.reader.past.Code as code
+use Rattle.cursor.specs.declared.Reader.{Reader}
+use Rattle.cursor.proofs.Reader as T
+use Rattle.cursor.proofs.Reader.Laws as T′
+use Rattle.cursor.proofs.past.Key.{name as #reader·past}
+use Rattle.cursor.proofs.past as past
+use Rattle.cursor.proofs.past.Statement as stated
+use Rattle.cursor.proofs.past.Code as code
 
 -- the struct's type, over the signature's lifetimes
 abbrev B : Lfts 1 → RattleType

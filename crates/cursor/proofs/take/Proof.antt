@@ -39,32 +39,32 @@ use denote.Triple.Table.{entered, cited}
 use denote.Triple.Walked.{says, needs, Stays, stay-none, stay-none-slice, walkOf, goes-none, goes-none-slice, Walks, ends-at, walked, walk-meets}
 use denote.Exit.{yes}
 use denote.Triple.Clauses.{ensured, lasts}
-use Rattle.reader.specs.declared.reader.Reader.{Reader}
-use Rattle.reader.specs.declared.reader.Taken.{Taken}
-use Rattle.reader.proofs.reader.Reader as T
-use Rattle.reader.proofs.reader.Reader.Laws as T′
-use Rattle.reader.proofs.reader.Taken as S
-use Rattle.reader.proofs.reader.Taken.Laws as S′
-use Rattle.reader.proofs.reader.new as new
-use Rattle.reader.proofs.reader.new.Symbol as new-def
-use Rattle.reader.proofs.reader.new.Symbol.{name as #reader·new}
-use Rattle.reader.proofs.reader.new.Met as new-thm
-use Rattle.reader.proofs.reader.word as word
-use Rattle.reader.proofs.reader.word.Symbol as word-def
-use Rattle.reader.proofs.reader.word.Symbol.{name as #reader·word}
-use Rattle.reader.proofs.reader.word.Met as word-thm
-use Rattle.reader.proofs.reader.past as past
-use Rattle.reader.proofs.reader.past.Symbol as past-def
-use Rattle.reader.proofs.reader.past.Symbol.{name as #reader·past}
-use Rattle.reader.proofs.reader.past.Met as past-thm
-use Rattle.reader.proofs.reader.at as at
-use Rattle.reader.proofs.reader.at.Symbol as at-def
-use Rattle.reader.proofs.reader.at.Symbol.{name as #reader·at}
-use Rattle.reader.proofs.reader.at.Met as at-thm
-use Rattle.reader.proofs.reader.take.Key.{name as #reader·take}
-use Rattle.reader.proofs.reader.take as take
-use Rattle.reader.proofs.reader.take.Statement as stated
-use Rattle.reader.proofs.reader.take.Code as code
+use Rattle.cursor.specs.declared.Reader.{Reader}
+use Rattle.cursor.specs.declared.Taken.{Taken}
+use Rattle.cursor.proofs.Reader as T
+use Rattle.cursor.proofs.Reader.Laws as T′
+use Rattle.cursor.proofs.Taken as S
+use Rattle.cursor.proofs.Taken.Laws as S′
+use Rattle.cursor.proofs.new as new
+use Rattle.cursor.proofs.new.Symbol as new-def
+use Rattle.cursor.proofs.new.Symbol.{name as #reader·new}
+use Rattle.cursor.proofs.new.Met as new-thm
+use Rattle.cursor.proofs.word as word
+use Rattle.cursor.proofs.word.Symbol as word-def
+use Rattle.cursor.proofs.word.Symbol.{name as #reader·word}
+use Rattle.cursor.proofs.word.Met as word-thm
+use Rattle.cursor.proofs.past as past
+use Rattle.cursor.proofs.past.Symbol as past-def
+use Rattle.cursor.proofs.past.Symbol.{name as #reader·past}
+use Rattle.cursor.proofs.past.Met as past-thm
+use Rattle.cursor.proofs.at as at
+use Rattle.cursor.proofs.at.Symbol as at-def
+use Rattle.cursor.proofs.at.Symbol.{name as #reader·at}
+use Rattle.cursor.proofs.at.Met as at-thm
+use Rattle.cursor.proofs.take.Key.{name as #reader·take}
+use Rattle.cursor.proofs.take as take
+use Rattle.cursor.proofs.take.Statement as stated
+use Rattle.cursor.proofs.take.Code as code
 
 abbrev stayed : Stays (take.ended .signature .params) (take.ended .kept)
 stayed = (stay-none-slice (0 ∷ []) tt (plain (λ _. u32)) yes, (stay-none (λ _. usize) yes, tt))
@@ -229,7 +229,7 @@ take-spec 𝓤 H 𝓜 𝓖 𝓡 =
     entered 𝓤 H (tripleOf 𝓤 H (𝓖 .A) take.signature (take.spec 𝓤 H (𝓖 .A) (𝓜 .mem) (𝓡 .run)))
     (tables 𝓤 H 𝓜 𝓡 code.env .C) (tables 𝓤 H 𝓜 𝓡 code.env .Λ) #reader·take code.function (code.unfolded 𝓤 H 𝓜 𝓡)
     (take-meets 𝓤 H (𝓖 .A) (givenOf 𝓤 H 𝓜 𝓖) (𝓜 .mem) (𝓡 .run) (tablesOf 𝓤 H 𝓜 (tables 𝓤 H 𝓜 𝓡 code.env))
-    (cited 𝓤 H (New 𝓤 H (𝓖 .A) (𝓜 .mem) (𝓡 .run)) 𝓜 𝓡 code.env #reader·new new-def.routine code.calls-reader·reader·new (new-thm.met 𝓤 H 𝓜 𝓖 𝓡))
-    (cited 𝓤 H (Word 𝓤 H (𝓖 .A) (𝓜 .mem) (𝓡 .run)) 𝓜 𝓡 code.env #reader·word word-def.routine code.calls-reader·reader·word (word-thm.met 𝓤 H 𝓜 𝓖 𝓡))
-    (cited 𝓤 H (Past 𝓤 H (𝓖 .A) (𝓜 .mem) (𝓡 .run)) 𝓜 𝓡 code.env #reader·past past-def.routine code.calls-reader·reader·past (past-thm.met 𝓤 H 𝓜 𝓖 𝓡))
-    (cited 𝓤 H (At 𝓤 H (𝓖 .A) (𝓜 .mem) (𝓡 .run)) 𝓜 𝓡 code.env #reader·at at-def.routine code.calls-reader·reader·at (at-thm.met 𝓤 H 𝓜 𝓖 𝓡)))
+    (cited 𝓤 H (New 𝓤 H (𝓖 .A) (𝓜 .mem) (𝓡 .run)) 𝓜 𝓡 code.env #reader·new new-def.routine code.calls-cursor·new (new-thm.met 𝓤 H 𝓜 𝓖 𝓡))
+    (cited 𝓤 H (Word 𝓤 H (𝓖 .A) (𝓜 .mem) (𝓡 .run)) 𝓜 𝓡 code.env #reader·word word-def.routine code.calls-cursor·word (word-thm.met 𝓤 H 𝓜 𝓖 𝓡))
+    (cited 𝓤 H (Past 𝓤 H (𝓖 .A) (𝓜 .mem) (𝓡 .run)) 𝓜 𝓡 code.env #reader·past past-def.routine code.calls-cursor·past (past-thm.met 𝓤 H 𝓜 𝓖 𝓡))
+    (cited 𝓤 H (At 𝓤 H (𝓖 .A) (𝓜 .mem) (𝓡 .run)) 𝓜 𝓡 code.env #reader·at at-def.routine code.calls-cursor·at (at-thm.met 𝓤 H 𝓜 𝓖 𝓡)))

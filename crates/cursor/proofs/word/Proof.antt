@@ -45,13 +45,13 @@ use Rattle.words.proofs.word as at-place
 use Rattle.words.proofs.word.Symbol as at-place-def
 use Rattle.words.proofs.word.Symbol.{name as #words·word}
 use Rattle.words.proofs.word.Met as at-place-thm
-use Rattle.reader.specs.declared.reader.Reader.{Reader}
-use Rattle.reader.proofs.reader.Reader as T
-use Rattle.reader.proofs.reader.Reader.Laws as T′
-use Rattle.reader.proofs.reader.word.Key.{name as #reader·word}
-use Rattle.reader.proofs.reader.word as word
-use Rattle.reader.proofs.reader.word.Statement as stated
-use Rattle.reader.proofs.reader.word.Code as code
+use Rattle.cursor.specs.declared.Reader.{Reader}
+use Rattle.cursor.proofs.Reader as T
+use Rattle.cursor.proofs.Reader.Laws as T′
+use Rattle.cursor.proofs.word.Key.{name as #reader·word}
+use Rattle.cursor.proofs.word as word
+use Rattle.cursor.proofs.word.Statement as stated
+use Rattle.cursor.proofs.word.Code as code
 
 -- the struct's type, over the signature's lifetimes
 abbrev B : Lfts 1 → RattleType

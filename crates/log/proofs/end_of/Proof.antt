@@ -5,10 +5,10 @@ use denote.Ref.{now}
 use Rattle.model.specs.Book.Contents.{firstOf}
 use Rattle.tables.specs.declared.TableInfo.{TableInfo}
 use borrow.Author.Tests.{ne-eqb}
-use Rattle.commit.specs.Walk.{endOf}
+use Rattle.log.specs.Walk.{endOf}
 use borrow.Author.Needs.{needs}
-use Rattle.commit.proofs.records.end_of.Statement.{statement}
-use Rattle.commit.proofs.records.end_of.Tie as tie
+use Rattle.log.proofs.end_of.Statement.{statement}
+use Rattle.log.proofs.end_of.Tie as tie
 
 add-result-2 : tie.Need-add-result-2
 add-result-2 c =

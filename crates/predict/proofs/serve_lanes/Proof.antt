@@ -52,9 +52,8 @@ loop-again c =
 returns : tie.Need-returns Inv-loop μ-loop
 unfolding servedLanes servedLane
 returns c =
-    let a = c .before .before .before .before .before .before .before .before .before .args in
     let l = c .before .loop in
-    let m = a .t5 .live in
+    let m = c .before .before .before .before .before .before .before .before .before .args .t5 .live in
     (live-turns m (search needs) _ (l .i) _ _ (l .inv .5) (omega (arith, c .before .before .end .ensures .0)) (λ k q. rw q), l .inv .4)
 
 pub serve-lanes-spec : {M : Type 1} → statement M

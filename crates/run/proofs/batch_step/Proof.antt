@@ -3,7 +3,7 @@ use mathlib.Core.Path.{sym, ap, subst, _∙_}
 use native.Mathlib.Omega.{arith}
 use lib.ListN.{length}
 use denote.Ref.{now}
-use Rattle.answer.specs.StepLaws.{batch-most}
+use Rattle.step_bodies.specs.StepLaws.{batch-most}
 use Rattle.action.specs.Run.{Running}
 use Rattle.run.specs.declared.Progress.{Progress}
 use Rattle.run.specs.Progress.{Ran, advanced, batchTold, batchStep}

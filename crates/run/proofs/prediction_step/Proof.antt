@@ -6,7 +6,7 @@ use lib.ListN.{length}
 use denote.Ref.{now}
 use Rattle.model.specs.Book.Contents.{firstOf}
 use Rattle.predict.specs.Predict.{Gotten}
-use Rattle.answer.specs.Steps.{placed, predictionWords}
+use Rattle.step_bodies.specs.Steps.{placed, predictionWords}
 use Rattle.run.specs.declared.Progress.{Progress}
 use Rattle.run.specs.Progress.{Ran, advanced, rowTold, predictionStep}
 use Rattle.run.specs.ProgressLaws.{row-most, row-answered, row-stopped}

@@ -12,7 +12,7 @@ slice-aggregate-same-words c = sym (length-take-le _ _ (omega arith))
 same-words-requires : tie.Need-same-words-requires
 same-words-requires c κs =
     let a = c .before .before .before .before .args in
-    let n = length-take-le (a .n) (now (a .answer)) (omega arith) in (search needs, omega (arith, n))
+    let n = length-take-le (a .n) (now (a .answer)) (omega arith) in omega (arith, n)
 
 pub same-answer-spec : {M : Type 1} → statement M
 same-answer-spec =

@@ -9,8 +9,8 @@ use Rattle.model.specs.Basics.{when, howMany}
 use Rattle.model.specs.Laws.Iter.{iter-more}
 use Rattle.mask.specs.MaskLaws.{howMany-le}
 use borrow.Author.Needs.{needs}
-use Rattle.answer.proofs.steps.bound_count.Statement.{statement}
-use Rattle.answer.proofs.steps.bound_count.Tie as tie
+use Rattle.step_bodies.proofs.bound_count.Statement.{statement}
+use Rattle.step_bodies.proofs.bound_count.Tie as tie
 
 abbrev Inv-loop : tie.InvT-loop
 Inv-loop bound n₀ v₀ n v = (v ≤ 32) × (n ≡ howMany (λ k. getD (bound .known) k false) v)

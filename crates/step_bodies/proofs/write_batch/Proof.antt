@@ -1,10 +1,10 @@
 use native.Mathlib.Nat.{le-trans, le-add-right}
-use Rattle.answer.specs.Runs.{runs, put-three}
+use Rattle.step_bodies.specs.Runs.{runs, put-three}
 use Rattle.mask.specs.Masks.{count}
 use Rattle.model.specs.Answer.{flag}
 use Rattle.model.specs.Basics.{tab, howMany}
-use Rattle.answer.specs.StepLaws.{placed-fits, placed-not, length-columns, length-batch, batch-most, count-most}
-use Rattle.answer.specs.Steps.{columnWords, batchWords}
+use Rattle.step_bodies.specs.StepLaws.{placed-fits, placed-not, length-columns, length-batch, batch-most, count-most}
+use Rattle.step_bodies.specs.Steps.{columnWords, batchWords}
 use Rattle.mask.specs.MaskLaws.{howMany-le}
 use lib.ListN.{length, getD, length-set}
 use denote.Ref.{now}
@@ -13,8 +13,8 @@ use mathlib.Core.Bool.{false}
 use mathlib.Core.Path.{_≡_, _∙_, sym}
 use Prim.Native.Nat.{ℕ, _+_, _*_, _≤_}
 use borrow.Author.Needs.{needs}
-use Rattle.answer.proofs.steps.write_batch.Statement.{statement}
-use Rattle.answer.proofs.steps.write_batch.Tie as tie
+use Rattle.step_bodies.proofs.write_batch.Statement.{statement}
+use Rattle.step_bodies.proofs.write_batch.Tie as tie
 
 -- the body's length, in the code's numbers
 length-is : (c : tie.After-bound-count) → 3 + c .bound-count .result * (1 + c .before .before .before .before .args .kept .matches) + c .before .before .before .before .args .kept .matches ≡ length (batchWords (c .before .before .before .before .args .kept .matches) (c .before .before .before .before .args .kept .bound .known) (now (c .before .before .before .before .args .bindings)) (c .before .before .before .before .args .mask .live))

@@ -1,4 +1,4 @@
-use Rattle.answer.specs.Runs.{put-cons}
+use Rattle.step_bodies.specs.Runs.{put-cons}
 use native.Mathlib.Nat.{add-sub-cancel-left}
 use Prim.Native.Nat.{ℕ, _+_, _*_, _<_, _≤_, _-_}
 use mathlib.Core.Path.{_≡_, _∙_, refl}
@@ -9,10 +9,10 @@ use denote.Ref.{now}
 use lib.ListN.{length, length-set}
 use Rattle.model.specs.Book.Decode.{part}
 use Rattle.model.specs.Laws.Bodies.{length-part}
-use Rattle.answer.specs.Steps.{columnWords}
+use Rattle.step_bodies.specs.Steps.{columnWords}
 use borrow.Author.Needs.{needs}
-use Rattle.answer.proofs.steps.write_column.Statement.{statement}
-use Rattle.answer.proofs.steps.write_column.Tie as tie
+use Rattle.step_bodies.proofs.write_column.Statement.{statement}
+use Rattle.step_bodies.proofs.write_column.Tie as tie
 
 -- the column stands in the memory, and the variable and it fit
 length-known : (m : List ℕ) (lanes v : ℕ) → v < 32 → lanes ≤ 256 → length m ≡ 8192 → length (v ∷ part m (256 * v) lanes) ≡ 1 + lanes

@@ -1,6 +1,6 @@
 use mathlib.Core.List.{List}
-use Rattle.answer.specs.Steps.{columnWords}
-use Rattle.answer.specs.Runs.{runs, put-none, end-none, put-more, end-more, put-fits}
+use Rattle.step_bodies.specs.Steps.{columnWords}
+use Rattle.step_bodies.specs.Runs.{runs, put-none, end-none, put-more, end-more, put-fits}
 use lib.Seq.{sets}
 use lib.ListN.{length, getD}
 use denote.Ref.{now}
@@ -9,8 +9,8 @@ use mathlib.Core.Bool.{false}
 use mathlib.Core.Path.{_≡_, _∙_}
 use Prim.Native.Nat.{ℕ, _+_, _-_, _≤_}
 use borrow.Author.Needs.{needs}
-use Rattle.answer.proofs.steps.write_columns.Statement.{statement}
-use Rattle.answer.proofs.steps.write_columns.Tie as tie
+use Rattle.step_bodies.proofs.write_columns.Statement.{statement}
+use Rattle.step_bodies.proofs.write_columns.Tie as tie
 
 abbrev Inv-loop : tie.InvT-loop
 Inv-loop bindings lanes start answer₀ bound at₀ v₀ answer at v = (v ≤ 32) × (length answer ≡ length answer₀) × (at ≡ start + length (runs (λ v. columnWords bindings lanes (getD (bound .known) v false) v) v)) × (answer ≡ sets answer₀ start (runs (λ v. columnWords bindings lanes (getD (bound .known) v false) v) v))

@@ -9,8 +9,8 @@ use mathlib.Core.Bool.{false}
 use mathlib.Core.Path.{_≡_}
 use Prim.Native.Nat.{ℕ, _-_, _≤_}
 use borrow.Author.Needs.{needs}
-use Rattle.answer.proofs.steps.write_live.Statement.{statement}
-use Rattle.answer.proofs.steps.write_live.Tie as tie
+use Rattle.step_bodies.proofs.write_live.Statement.{statement}
+use Rattle.step_bodies.proofs.write_live.Tie as tie
 
 abbrev Inv-loop : tie.InvT-loop
 Inv-loop lanes at answer₀ mask i₀ answer i = (i ≤ lanes) × (length answer ≡ length answer₀) × (answer ≡ sets answer₀ at (tab (λ k. flag (getD (mask .live) k false)) i))

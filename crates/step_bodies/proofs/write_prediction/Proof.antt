@@ -1,14 +1,14 @@
 use Rattle.model.specs.Answer.{flag}
-use Rattle.answer.specs.StepLaws.{placed-fits, placed-not}
-use Rattle.answer.specs.Steps.{predictionWords}
-use Rattle.answer.specs.Runs.{put-cons}
+use Rattle.step_bodies.specs.StepLaws.{placed-fits, placed-not}
+use Rattle.step_bodies.specs.Steps.{predictionWords}
+use Rattle.step_bodies.specs.Runs.{put-cons}
 use lib.ListN.{length-set}
 use denote.Ref.{now}
 use native.Mathlib.Omega.{arith}
 use mathlib.Core.Path.{_∙_}
 use borrow.Author.Needs.{needs}
-use Rattle.answer.proofs.steps.write_prediction.Statement.{statement}
-use Rattle.answer.proofs.steps.write_prediction.Tie as tie
+use Rattle.step_bodies.proofs.write_prediction.Statement.{statement}
+use Rattle.step_bodies.proofs.write_prediction.Tie as tie
 
 returns : tie.Need-returns
 returns c =

@@ -1,6 +1,6 @@
 use borrow.Author.Needs.{needs}
-use Rattle.engine.proofs.dispatch_run.Statement.{statement}
-use Rattle.engine.proofs.dispatch_run.Tie as tie
+use Rattle.wirumbane.proofs.dispatch_run.Statement.{statement}
+use Rattle.wirumbane.proofs.dispatch_run.Tie as tie
 
 returns : tie.Need-returns
 returns c = let r = c .before .before .before .before .before .before .before .before .before .before .before .run in ((r .result, c .pack .ensures, r .ensures .0, r .ensures .1 .0), (r .ensures .1 .1 .0, (r .ensures .1 .1 .1 .0, (r .ensures .1 .1 .1 .1 .0, r .ensures .1 .1 .1 .1 .1))))

@@ -1,6 +1,6 @@
 use borrow.Author.Needs.{needs}
-use Rattle.engine.proofs.pack.Statement.{statement}
-use Rattle.engine.proofs.pack.Tie as tie
+use Rattle.wirumbane.proofs.pack.Statement.{statement}
+use Rattle.wirumbane.proofs.pack.Tie as tie
 
 returns : tie.Need-returns
 returns c = rw (c .before .before .outcome .given .1, c .before .known-told .given, c .low-half .ensures)

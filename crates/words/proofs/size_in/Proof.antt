@@ -6,8 +6,8 @@ use lib.ListN.{length, List·getD-eq-default}
 use borrow.Author.Needs.{needs}
 use Rattle.model.specs.Book.Words.{wordsOf}
 use Rattle.model.specs.Laws.Words.{length-words, getD-words}
-use Rattle.sample.proofs.word.Statement.{statement}
-use Rattle.sample.proofs.word.Tie as tie
+use Rattle.words.proofs.size_in.Statement.{statement}
+use Rattle.words.proofs.size_in.Tie as tie
 
 word-at-requires : tie.Need-word-at-requires
 word-at-requires c κs = search needs
@@ -18,14 +18,14 @@ size-requires c κs = search needs
 returns : tie.Need-returns
 returns c =
     let a = c .before .before .before .before .args in
-    let here : a .i < length (wordsOf (now (a .sample))) = omega (arith, length-words (now (a .sample)), c .before .before .if1 .taken) in
-    (c .size .ensures .0 ∙ c .before .word-at .ensures ∙ sym (getD-words (now (a .sample)) (a .i) here), c .size .ensures .1)
+    let here : a .i < length (wordsOf (now (a .bytes))) = omega (arith, length-words (now (a .bytes)), c .before .before .if1 .taken) in
+    (c .size .ensures .0 ∙ c .before .word-at .ensures ∙ sym (getD-words (now (a .bytes)) (a .i) here), c .size .ensures .1)
 
 returns-2 : tie.Need-returns-2
 returns-2 c =
     let a = c .before .before .args in
-    let past : length (wordsOf (now (a .sample))) ≤ a .i = omega (arith, length-words (now (a .sample)), c .if1 .left) in
-    (sym (List·getD-eq-default (wordsOf (now (a .sample))) 0 {n = a .i} past), search needs)
+    let past : length (wordsOf (now (a .bytes))) ≤ a .i = omega (arith, length-words (now (a .bytes)), c .if1 .left) in
+    (sym (List·getD-eq-default (wordsOf (now (a .bytes))) 0 {n = a .i} past), search needs)
 
-pub word-spec : {M : Type 1} → statement M
-word-spec = tie.close (tie.spec word-at-requires size-requires returns returns-2)
+pub size-in-spec : {M : Type 1} → statement M
+size-in-spec = tie.close (tie.spec word-at-requires size-requires returns returns-2)

@@ -1,4 +1,4 @@
-use Rattle.answer.specs.Runs.{put-cons}
+use Rattle.step_bodies.specs.Runs.{put-cons}
 use Rattle.model.specs.Answer.{flag}
 use lib.ListN.{length-set}
 use denote.Ref.{now}

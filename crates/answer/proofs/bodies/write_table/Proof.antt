@@ -1,5 +1,5 @@
 use Rattle.answer.specs.Layout.{rowsLength}
-use Rattle.answer.specs.Runs.{put-four}
+use Rattle.step_bodies.specs.Runs.{put-four}
 use Rattle.model.specs.Laws.Bodies.{length-part}
 use Rattle.model.specs.Book.Decode.{part}
 use lib.ListN.{length, length-set}

@@ -1,5 +1,5 @@
 use Rattle.answer.specs.Layout.{rowsLength, tableWords}
-use Rattle.answer.specs.Runs.{runs, put-none, end-none, put-more, end-more, put-fits}
+use Rattle.step_bodies.specs.Runs.{runs, put-none, end-none, put-more, end-more, put-fits}
 use Rattle.answer.specs.Sums.{sum, sum-none, sum-turn, sum-fits}
 use lib.Seq.{sets}
 use lib.ListN.{length}

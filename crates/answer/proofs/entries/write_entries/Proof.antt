@@ -1,6 +1,6 @@
 use Rattle.answer.specs.LayoutLaws.{small-entry, length-entries}
 use Rattle.answer.specs.Layout.{entryAt, entryWords}
-use Rattle.answer.specs.Runs.{runs, put-none, put-more}
+use Rattle.step_bodies.specs.Runs.{runs, put-none, put-more}
 use Rattle.answer.specs.Sums.{sum, sum-none, sum-turn}
 use Rattle.answer.specs.declared.entries.Entry.{Entry}
 use lib.Seq.{sets}

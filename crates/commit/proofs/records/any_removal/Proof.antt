@@ -5,8 +5,9 @@ use native.Mathlib.Omega.{arith}
 use lib.Dec.{eqb}
 use lib.ListN.{length}
 use denote.Ref.{now}
-use Rattle.commit.specs.Walk.{endOf, removalTurn, anyRemoval}
-use Rattle.commit.specs.WalkLaws.{Reached, reached-none, reached-more, reached-end, end-after}
+use Rattle.log.specs.Walk.{endOf}
+use Rattle.commit.specs.Walk.{removalTurn, anyRemoval}
+use Rattle.log.specs.WalkLaws.{Reached, reached-none, reached-more, reached-end, end-after}
 use borrow.Author.Needs.{needs}
 use Rattle.commit.proofs.records.any_removal.Statement.{statement}
 use Rattle.commit.proofs.records.any_removal.Tie as tie

@@ -6,8 +6,10 @@ use lib.ListN.{length}
 use Rattle.tables.specs.declared.TableInfo.{TableInfo}
 use Rattle.commit.specs.Rows.{Rows, Stand}
 use Rattle.commit.specs.Indexed.{indexFor}
-use Rattle.commit.specs.Walk.{endOf, insertRow, inserted}
-use Rattle.commit.specs.WalkLaws.{Reached, reached-none, reached-more, reached-end, end-after, insertion-end, insert-keeps}
+use Rattle.log.specs.Walk.{endOf}
+use Rattle.commit.specs.Walk.{insertRow, inserted}
+use Rattle.log.specs.WalkLaws.{Reached, reached-none, reached-more, reached-end, end-after, insertion-end}
+use Rattle.commit.specs.WalkLaws.{insert-keeps}
 use borrow.Author.Needs.{needs}
 use Rattle.commit.proofs.records.insert_all.Statement.{statement}
 use Rattle.commit.proofs.records.insert_all.Tie as tie

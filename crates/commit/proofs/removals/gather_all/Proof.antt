@@ -3,8 +3,9 @@ use mathlib.Core.Path.{_≡_, refl, ap, _∙_}
 use native.Mathlib.Omega.{arith}
 use lib.ListN.{length}
 use denote.Ref.{now}
-use Rattle.commit.specs.Walk.{endOf, Keys, storeTurn}
-use Rattle.commit.specs.WalkLaws.{Reached, reached-none, reached-more, reached-end, end-after, removal-end}
+use Rattle.log.specs.Walk.{endOf}
+use Rattle.commit.specs.Walk.{Keys, storeTurn}
+use Rattle.log.specs.WalkLaws.{Reached, reached-none, reached-more, reached-end, end-after, removal-end}
 use Rattle.commit.specs.KeyLaws.{stored-laid, store-fits}
 use borrow.Author.Needs.{needs}
 use Rattle.commit.proofs.removals.gather_all.Statement.{statement}

@@ -3,8 +3,8 @@ use native.Mathlib.Omega.{arith}
 use denote.Ref.{now}
 use Prim.Native.Nat.{_-_}
 use lib.ListN.{length}
-use Rattle.commit.specs.Walk.{endOf}
-use Rattle.commit.specs.WalkLaws.{Reached, reached-none, reached-more, reached-end, end-after}
+use Rattle.log.specs.Walk.{endOf}
+use Rattle.log.specs.WalkLaws.{Reached, reached-none, reached-more, reached-end, end-after}
 use Rattle.report.specs.Text.{upTo}
 use Rattle.report.specs.LinesLaws.{writeRecord, written-records}
 use borrow.Author.Needs.{needs}

@@ -1,9 +1,9 @@
 use mathlib.Core.Path.{_∙_}
 use denote.Ref.{now}
-use Rattle.answer.specs.Runs.{paste-sets}
+use Rattle.step_bodies.specs.Runs.{paste-sets}
 use borrow.Author.Needs.{needs}
-use Rattle.answer.proofs.put.write.Statement.{statement}
-use Rattle.answer.proofs.put.write.Tie as tie
+use Rattle.step_bodies.proofs.put.write.Statement.{statement}
+use Rattle.step_bodies.proofs.put.write.Tie as tie
 
 copy-requires : tie.Need-copy-requires
 copy-requires c κs = search needs
