@@ -30,6 +30,9 @@ pub record Lanes : Type 0 where
   pub index : List ℕ
   pub out : List ℕ
 
+abbrev pub asLanes : List Bool → ExecutionState → (log index out : List ℕ) → Lanes
+asLanes live state log index out = record { live = live; state = state; log = log; index = index; out = out }
+
 abbrev pub withLanes : List Bool → List ℕ → Lanes → Lanes
 withLanes live out l = record { live = live; state = l .state; log = l .log; index = l .index; out = out }
 

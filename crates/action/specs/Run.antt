@@ -24,6 +24,9 @@ pub record Running : Type 0 where
   pub log : List ℕ
   pub index : List ℕ
 
+abbrev pub asRunning : Batch → (bindings log index : List ℕ) → Running
+asRunning batch bindings log index = record { batch = batch; bindings = bindings; log = log; index = index }
+
 -- dst takes the first n words of an array
 abbrev pub boundTo : Option ℕ → ℕ → List ℕ → List ℕ → List ℕ
 boundTo none n out m = m

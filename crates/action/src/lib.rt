@@ -20,8 +20,8 @@ ghost use Rattle.bindings.specs.Bindings.{boundIn};
 ghost use Rattle.instr.specs.Instr.{instrAt};
 ghost use Rattle.instr.specs.Stands.{Stands, IsVariable, variableOf};
 ghost use Rattle.predict.specs.Predict.{Ready};
-ghost use Rattle.action.specs.Act.{Lanes, acted};
-ghost use Rattle.action.specs.Run.{Running, boundTo, ranInstr, ranNext, ranInstrs};
+ghost use Rattle.action.specs.Act.{acted, asLanes};
+ghost use Rattle.action.specs.Run.{boundTo, ranInstr, ranNext, ranInstrs, asRunning};
 
 // A batch as it runs: what its bindings keep beside the lent words, which lanes are live, and what the run keeps.
 pub struct Batch {
@@ -48,8 +48,11 @@ fn act(
     index: &mut [u32],
     out: &mut [u32],
 ) -> Acted
-    requires { ⌜ Readable (now words) × BookIndex (now words) (tableCount (now words)) (now committed) × Stands (now words) i × Ready state (now log) (now index) × (length (now out) ≡ 256) ⌝ }
-    ensures is { λ r. ⌜ _≡_ {A = Lanes} (record { live = r .mask .live; state = r .state; log = now (log .exit); index = now (index .exit); out = now (out .exit) }) (acted (now (words .entry)) (now (bindings .entry)) i (record { live = mask .live; state = state; log = now (log .entry); index = now (index .entry); out = now (out .entry) })) ⌝ }
+    requires { ⌜ Readable (now words) × BookIndex (now words) (tableCount (now words)) (now committed) × Stands (now words) i
+        × Ready state (now log) (now index) × (length (now out) ≡ 256) ⌝ }
+    ensures is { λ r. ⌜ asLanes (r .mask .live) (r .state) (now (log .exit)) (now (index .exit)) (now (out .exit))
+        ≡ acted (now (words .entry)) (now (bindings .entry)) i
+        (asLanes (mask .live) state (now (log .entry)) (now (index .entry)) (now (out .entry))) ⌝ }
     ensures fits { λ r. ⌜ r .state .used ≤ length (now (log .entry)) ⌝ }
 {
     match i {
@@ -252,8 +255,11 @@ fn run_instr(
     log: &mut [u32],
     index: &mut [u32],
 ) -> Batch
-    requires { ⌜ Readable (now words) × BookIndex (now words) (tableCount (now words)) (now committed) × Stands (now words) i × Ready (batch .state) (now log) (now index) × (length (now bindings) ≡ 8192) ⌝ }
-    ensures is { λ r. ⌜ _≡_ {A = Running} (record { batch = r; bindings = now (bindings .exit); log = now (log .exit); index = now (index .exit) }) (ranInstr (now (words .entry)) i (record { batch = batch; bindings = now (bindings .entry); log = now (log .entry); index = now (index .entry) })) ⌝ }
+    requires { ⌜ Readable (now words) × BookIndex (now words) (tableCount (now words)) (now committed) × Stands (now words) i
+        × Ready (batch .state) (now log) (now index) × (length (now bindings) ≡ 8192) ⌝ }
+    ensures is { λ r. ⌜ asRunning r (now (bindings .exit)) (now (log .exit)) (now (index .exit))
+        ≡ ranInstr (now (words .entry)) i
+        (asRunning batch (now (bindings .entry)) (now (log .entry)) (now (index .entry))) ⌝ }
     ensures fits { λ r. ⌜ r .state .used ≤ length (now (log .entry)) ⌝ }
 {
     let mask = batch.mask;
@@ -290,8 +296,12 @@ fn run_next(
     log: &mut [u32],
     index: &mut [u32],
 ) -> Batch
-    requires { ⌜ Readable (now words) × BookIndex (now words) (tableCount (now words)) (now committed) × (p ≤ 16384) × Stands (now words) (instrAt (now words) p) × Ready (batch .state) (now log) (now index) × (length (now bindings) ≡ 8192) ⌝ }
-    ensures is { λ r. ⌜ _≡_ {A = Running} (record { batch = r; bindings = now (bindings .exit); log = now (log .exit); index = now (index .exit) }) (ranNext (now (words .entry)) p (record { batch = batch; bindings = now (bindings .entry); log = now (log .entry); index = now (index .entry) })) ⌝ }
+    requires { ⌜ Readable (now words) × BookIndex (now words) (tableCount (now words)) (now committed) × (p ≤ 16384)
+        × Stands (now words) (instrAt (now words) p) × Ready (batch .state) (now log) (now index)
+        × (length (now bindings) ≡ 8192) ⌝ }
+    ensures is { λ r. ⌜ asRunning r (now (bindings .exit)) (now (log .exit)) (now (index .exit))
+        ≡ ranNext (now (words .entry)) p
+        (asRunning batch (now (bindings .entry)) (now (log .entry)) (now (index .entry))) ⌝ }
     ensures fits { λ r. ⌜ r .state .used ≤ length (now (log .entry)) ⌝ }
 {
     let state = batch.state;
@@ -321,8 +331,12 @@ pub fn run_instrs(
     log: &mut [u32],
     index: &mut [u32],
 ) -> Batch
-    requires { ⌜ Readable (now words) × BookIndex (now words) (tableCount (now words)) (now committed) × (base ≡ firstRule (now words)) × (r < ruleCount (now words)) × Ready (start .state) (now log) (now index) × (length (now bindings) ≡ 8192) ⌝ }
-    ensures is { λ b. ⌜ _≡_ {A = Running} (record { batch = b; bindings = now (bindings .exit); log = now (log .exit); index = now (index .exit) }) (ranInstrs (now (words .entry)) (firstOf (now (words .entry)) (base + r)) (getD (now (words .entry)) (firstOf (now (words .entry)) (base + r) + 1) 0) (record { batch = start; bindings = now (bindings .entry); log = now (log .entry); index = now (index .entry) })) ⌝ }
+    requires { ⌜ Readable (now words) × BookIndex (now words) (tableCount (now words)) (now committed) × (base ≡ firstRule (now words))
+        × (r < ruleCount (now words)) × Ready (start .state) (now log) (now index) × (length (now bindings) ≡ 8192) ⌝ }
+    ensures is { λ b. ⌜ asRunning b (now (bindings .exit)) (now (log .exit)) (now (index .exit))
+        ≡ ranInstrs (now (words .entry)) (firstOf (now (words .entry)) (base + r))
+        (getD (now (words .entry)) (firstOf (now (words .entry)) (base + r) + 1) 0)
+        (asRunning start (now (bindings .entry)) (now (log .entry)) (now (index .entry))) ⌝ }
     ensures fits { λ b. ⌜ b .state .used ≤ length (now (log .entry)) ⌝ }
 {
     let first = contents::first_of(words, base + r);

@@ -17,7 +17,7 @@ ghost use Rattle.instr.specs.Stands.{Short};
 ghost use Rattle.hash_index.specs.Book.{BookIndex};
 ghost use Rattle.lanes.specs.Lanes.{AskFits};
 ghost use Rattle.predict.specs.Predict.{Ready};
-ghost use Rattle.action.specs.Act.{Lanes, rowAsk, eitherLanes, eitherWords, serving};
+ghost use Rattle.action.specs.Act.{Lanes, rowAsk, eitherLanes, eitherWords, serving, asLanes};
 
 // A column of the committed row with a key.
 pub fn row_ask(words: &[u32], table: TableId, key: Entries, col: ColumnId) -> Ask
@@ -41,7 +41,8 @@ pub fn fill_or_else(
     out: &mut [u32],
 ) -> Mask
     requires { ⌜ AskFits (now words) (now committed) ask × AskFits (now words) (now committed) other × (length (now out) ≡ 256) ⌝ }
-    ensures words { λ r. ⌜ now (out .exit) ≡ eitherWords (now (words .entry)) (now (bindings .entry)) ask other (mask .live) (now (out .entry)) ⌝ }
+    ensures words { λ r. ⌜ now (out .exit) ≡ eitherWords (now (words .entry)) (now (bindings .entry)) ask other (mask .live)
+        (now (out .entry)) ⌝ }
     ensures lanes { λ r. ⌜ r .live ≡ eitherLanes (now (words .entry)) (now (bindings .entry)) ask other (mask .live) ⌝ }
 {
     let found = lanes::fill(words, committed, bindings, ask, mask, out);
@@ -65,8 +66,12 @@ pub fn lookup_or_insert_default(
     index: &mut [u32],
     out: &mut [u32],
 ) -> ExecutionState
-    requires { ⌜ Readable (now words) × BookIndex (now words) (tableCount (now words)) (now committed) × (table .0 < tableCount (now words)) × Short args × Short default × Ready state (now log) (now index) × (length (now out) ≡ 256) ⌝ }
-    ensures is { λ r. ⌜ _≡_ {A = Lanes} (record { live = mask .live; state = r; log = now (log .exit); index = now (index .exit); out = now (out .exit) }) (serving (now (words .entry)) (now (bindings .entry)) table args default col (record { live = mask .live; state = state; log = now (log .entry); index = now (index .entry); out = now (out .entry) })) ⌝ }
+    requires { ⌜ Readable (now words) × BookIndex (now words) (tableCount (now words)) (now committed)
+        × (table .0 < tableCount (now words)) × Short args × Short default × Ready state (now log) (now index)
+        × (length (now out) ≡ 256) ⌝ }
+    ensures is { λ r. ⌜ asLanes (mask .live) r (now (log .exit)) (now (index .exit)) (now (out .exit))
+        ≡ serving (now (words .entry)) (now (bindings .entry)) table args default col
+        (asLanes (mask .live) state (now (log .entry)) (now (index .entry)) (now (out .entry))) ⌝ }
     ensures fits { λ r. ⌜ r .used ≤ length (now (log .entry)) ⌝ }
 {
     let of = Sought::of(words, table);

@@ -17,6 +17,7 @@ use Rattle.answer.specs.declared.Assembled.the-variants.{Words, Over}
 use Rattle.answer.specs.declared.entries.Shape.{Shape}
 use Rattle.answer.specs.declared.entries.Entry.{Entry}
 use Rattle.answer.specs.Sums.{sum}
+use Rattle.step_bodies.specs.Runs.{runs}
 
 -- the kind of a step's body, by the step's
 abbrev pub stepKind : ℕ → ℕ
@@ -29,6 +30,10 @@ rowsLength w counts t = getD counts t 0 * widthOf w t
 -- the body of table t, whose rows stand at the word `from` of `rows`
 abbrev pub tableWords : (w counts rows : List ℕ) (from t : ℕ) → List ℕ
 tableWords w counts rows from t = getD w (firstOf w t) 0 ∷ getD w (firstOf w t + 1) 0 ∷ getD w (firstOf w t + 2) 0 ∷ getD counts t 0 ∷ part rows from (rowsLength w counts t)
+
+-- the bodies of the first n tables
+abbrev pub tablesWords : (w counts rows : List ℕ) (n : ℕ) → List ℕ
+tablesWords w counts rows n = runs (λ t. tableWords w counts rows (sum (rowsLength w counts) t) t) n
 
 -- ## The bodies
 
@@ -80,6 +85,13 @@ entryAt w counts lengths used z i =
 -- an entry of the contents, of a body that begins at the word p
 abbrev pub entryWords : Entry → ℕ → List ℕ
 entryWords e p = e .kind ∷ p ∷ e .length ∷ []
+
+-- how many words the first n bodies have; and the entries of these, the first body beginning at `start`
+abbrev pub bodiesLength : (w counts lengths : List ℕ) (used : ℕ) (z : Shape) (n : ℕ) → ℕ
+bodiesLength w counts lengths used z n = sum (λ i. entryAt w counts lengths used z i .length) n
+
+abbrev pub entriesWords : (w counts lengths : List ℕ) (used : ℕ) (z : Shape) (start n : ℕ) → List ℕ
+entriesWords w counts lengths used z start n = runs (λ i. entryWords (entryAt w counts lengths used z i) (start + bodiesLength w counts lengths used z i)) n
 
 -- the numbers are so small that no sum of the layout passes a word
 pub record Small (w counts lengths : List ℕ) (used : ℕ) (z : Shape) : Type 0 where

@@ -6,8 +6,7 @@ ghost use lib.ListN.{length, take};
 ghost use lib.Seq.{sets};
 ghost use Rattle.model.specs.Answer as model;
 ghost use Rattle.answer.specs.Sums.{sum};
-ghost use Rattle.step_bodies.specs.Runs.{runs};
-ghost use Rattle.answer.specs.Layout.{rowsLength, tableWords};
+ghost use Rattle.answer.specs.Layout.{rowsLength, tableWords, tablesWords};
 use crate::entries;
 use ids::TableId;
 use step_bodies::put;
@@ -35,8 +34,11 @@ fn write_table(
     at: usize,
     answer: &mut [u32],
 ) -> usize
-    requires { ⌜ (table .0 < 16) × (rowsLength (now words) (now counts) (table .0) ≤ 16384) × (from + rowsLength (now words) (now counts) (table .0) ≤ length (now rows)) × (at + length (tableWords (now words) (now counts) (now rows) from (table .0)) ≤ length (now answer)) ⌝ }
-    ensures words { λ _. ⌜ now (answer .exit) ≡ sets (now (answer .entry)) at (tableWords (now (words .entry)) (now (counts .entry)) (now (rows .entry)) from (table .0)) ⌝ }
+    requires { ⌜ (table .0 < 16) × (rowsLength (now words) (now counts) (table .0) ≤ 16384)
+        × (from + rowsLength (now words) (now counts) (table .0) ≤ length (now rows))
+        × (at + length (tableWords (now words) (now counts) (now rows) from (table .0)) ≤ length (now answer)) ⌝ }
+    ensures words { λ _. ⌜ now (answer .exit) ≡ sets (now (answer .entry)) at
+        (tableWords (now (words .entry)) (now (counts .entry)) (now (rows .entry)) from (table .0)) ⌝ }
     ensures end { λ r. ⌜ r ≡ at + length (tableWords (now (words .entry)) (now (counts .entry)) (now (rows .entry)) from (table .0)) ⌝ }
 {
     let t = table.0 as usize;
@@ -58,9 +60,12 @@ pub fn write_tables(
     start: usize,
     answer: &mut [u32],
 ) -> usize
-    requires { ⌜ (n ≤ 16) × (sum (rowsLength (now words) (now counts)) n ≤ 16384) × (sum (rowsLength (now words) (now counts)) n ≤ length (now rows)) × (start + length (runs (λ t. tableWords (now words) (now counts) (now rows) (sum (rowsLength (now words) (now counts)) t) t) n) ≤ length (now answer)) ⌝ }
-    ensures words { λ _. ⌜ now (answer .exit) ≡ sets (now (answer .entry)) start (runs (λ t. tableWords (now (words .entry)) (now (counts .entry)) (now (rows .entry)) (sum (rowsLength (now (words .entry)) (now (counts .entry))) t) t) n) ⌝ }
-    ensures end { λ r. ⌜ r ≡ start + length (runs (λ t. tableWords (now (words .entry)) (now (counts .entry)) (now (rows .entry)) (sum (rowsLength (now (words .entry)) (now (counts .entry))) t) t) n) ⌝ }
+    requires { ⌜ (n ≤ 16) × (sum (rowsLength (now words) (now counts)) n ≤ 16384)
+        × (sum (rowsLength (now words) (now counts)) n ≤ length (now rows))
+        × (start + length (tablesWords (now words) (now counts) (now rows) n) ≤ length (now answer)) ⌝ }
+    ensures words { λ _. ⌜ now (answer .exit)
+        ≡ sets (now (answer .entry)) start (tablesWords (now (words .entry)) (now (counts .entry)) (now (rows .entry)) n) ⌝ }
+    ensures end { λ r. ⌜ r ≡ start + length (tablesWords (now (words .entry)) (now (counts .entry)) (now (rows .entry)) n) ⌝ }
 {
     let mut from = 0;
     let mut at = start;

@@ -4,9 +4,7 @@ ghost use Prim.Native.Nat.{_+_, _*_, _^_, _<_, _≤_};
 ghost use lib.ListN.{length};
 ghost use lib.Seq.{sets};
 ghost use Rattle.model.specs.Book.Contents as book;
-ghost use Rattle.answer.specs.Sums.{sum};
-ghost use Rattle.step_bodies.specs.Runs.{runs};
-ghost use Rattle.answer.specs.Layout.{stepKind, rowsLength, shapeOf, Small, bodyCount, entryAt, entryWords};
+ghost use Rattle.answer.specs.Layout.{stepKind, rowsLength, shapeOf, Small, bodyCount, entryAt, entryWords, bodiesLength, entriesWords};
 use ids::TableId;
 
 // How many tables, counters and steps there are, and the book's entry of the first step.
@@ -105,7 +103,7 @@ pub fn length_of(
     n: usize,
 ) -> usize
     requires { ⌜ Small (now words) (now counts) (now lengths) used z × (n ≤ bodyCount z) ⌝ }
-    ensures { λ r. ⌜ r ≡ sum (λ i. entryAt (now (words .entry)) (now (counts .entry)) (now (lengths .entry)) used z i .length) n ⌝ }
+    ensures { λ r. ⌜ r ≡ bodiesLength (now (words .entry)) (now (counts .entry)) (now (lengths .entry)) used z n ⌝ }
 {
     let mut s = 0;
     let mut i = 0;
@@ -138,8 +136,10 @@ pub fn write_entries(
     start: usize,
     answer: &mut [u32],
 )
-    requires { ⌜ Small (now words) (now counts) (now lengths) used z × (n ≤ bodyCount z) × (start ≤ 1024) × (1 + 3 * n ≤ length (now answer)) ⌝ }
-    ensures { λ _. ⌜ now (answer .exit) ≡ sets (now (answer .entry)) 1 (runs (λ i. entryWords (entryAt (now (words .entry)) (now (counts .entry)) (now (lengths .entry)) used z i) (start + sum (λ i. entryAt (now (words .entry)) (now (counts .entry)) (now (lengths .entry)) used z i .length) i)) n) ⌝ }
+    requires { ⌜ Small (now words) (now counts) (now lengths) used z × (n ≤ bodyCount z) × (start ≤ 1024)
+        × (1 + 3 * n ≤ length (now answer)) ⌝ }
+    ensures { λ _. ⌜ now (answer .exit) ≡ sets (now (answer .entry)) 1
+        (entriesWords (now (words .entry)) (now (counts .entry)) (now (lengths .entry)) used z start n) ⌝ }
 {
     let mut first = start;
     let mut i = 0;

@@ -31,8 +31,19 @@ fn fill(
     z: Shape,
     answer: &mut [u32],
 )
-    requires { ⌜ (z ≡ shapeOf (now words)) × Small (now words) (now counts) (now lengths) (length (now log)) z × (z .counters ≤ length (now next)) × Enough (resultsOf (now words) (now counts) (now rows) (now next) (now lengths) (take scratch (now answer)) changed (now log)) scratch (now answer) × (wholeLength (resultsOf (now words) (now counts) (now rows) (now next) (now lengths) (take scratch (now answer)) changed (now log)) ≤ length (now answer)) ⌝ }
-    ensures { λ _. ⌜ now (answer .exit) ≡ answered (resultsOf (now (words .entry)) (now (counts .entry)) (now (rows .entry)) (now (next .entry)) (now (lengths .entry)) (take scratch (now (answer .entry))) changed (now (log .entry))) (length (now (answer .entry))) ⌝ }
+    requires { ⌜ (z ≡ shapeOf (now words)) × Small (now words) (now counts) (now lengths) (length (now log)) z
+        × (z .counters ≤ length (now next))
+        × Enough
+        (resultsOf (now words) (now counts) (now rows) (now next) (now lengths) (take scratch (now answer)) changed
+        (now log)) scratch (now answer)
+        × (wholeLength
+        (resultsOf (now words) (now counts) (now rows) (now next) (now lengths) (take scratch (now answer)) changed
+        (now log))
+        ≤ length (now answer)) ⌝ }
+    ensures { λ _. ⌜ now (answer .exit) ≡ answered
+        (resultsOf (now (words .entry)) (now (counts .entry)) (now (rows .entry))
+        (now (next .entry)) (now (lengths .entry)) (take scratch (now (answer .entry)))
+        changed (now (log .entry))) (length (now (answer .entry))) ⌝ }
 {
     let used = log.len();
     let tables = z.tables;
@@ -59,9 +70,15 @@ pub fn assemble(
     scratch: usize,
     answer: &mut [u32],
 ) -> Assembled
-    requires { ⌜ Readable (now words) × (state .used ≤ length (now log)) × Enough (leftBy (now words) (now tables) (now log) (now lengths) scratch (now answer) done state) scratch (now answer) ⌝ }
-    ensures words { λ _. ⌜ now (answer .exit) ≡ assembled (leftBy (now (words .entry)) (now (tables .entry)) (now (log .entry)) (now (lengths .entry)) scratch (now (answer .entry)) done state) (now (answer .entry)) ⌝ }
-    ensures length { λ r. ⌜ r ≡ assembledLength (leftBy (now (words .entry)) (now (tables .entry)) (now (log .entry)) (now (lengths .entry)) scratch (now (answer .entry)) done state) (length (now (answer .entry))) ⌝ }
+    requires { ⌜ Readable (now words) × (state .used ≤ length (now log))
+        × Enough (leftBy (now words) (now tables) (now log) (now lengths) scratch (now answer) done state) scratch
+        (now answer) ⌝ }
+    ensures words { λ _. ⌜ now (answer .exit) ≡ assembled
+        (leftBy (now (words .entry)) (now (tables .entry)) (now (log .entry))
+        (now (lengths .entry)) scratch (now (answer .entry)) done state) (now (answer .entry)) ⌝ }
+    ensures length { λ r. ⌜ r ≡ assembledLength
+        (leftBy (now (words .entry)) (now (tables .entry)) (now (log .entry)) (now (lengths .entry)) scratch
+        (now (answer .entry)) done state) (length (now (answer .entry))) ⌝ }
 {
     let used = state.used;
     let counters = state.counters;

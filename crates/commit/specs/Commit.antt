@@ -34,6 +34,9 @@ pub record Left : Type 0 where
   pub words : List ℕ
   pub result : Committed
 
+abbrev pub asLeft : List ℕ → Committed → Left
+asLeft words result = record { words = words; result = result }
+
 -- a table with no rows yet, past those before it
 abbrev pub begun : Left → Rows
 begun c = record { words = c .words; part = record { from = c .result .used; count = 0; used = c .result .used; over = c .result .over } }

@@ -19,6 +19,9 @@ pub record Rows : Type 0 where
   pub words : List ℕ
   pub part : Part
 
+abbrev pub asRows : List ℕ → Part → Rows
+asRows words part = record { words = words; part = part }
+
 -- a table with room for a key in an array of 16, and a word in each row
 pub record Sound (i : TableInfo) : Type 0 where
   pub keys : i .keys ≤ i .width

@@ -47,6 +47,9 @@ pub record Keys : Type 0 where
   pub words : List ℕ
   pub count : ℕ
 
+abbrev pub asKeys : List ℕ → ℕ → Keys
+asKeys words count = record { words = words; count = count }
+
 abbrev pub withKey : List ℕ → Keys → Keys
 withKey key s = record { words = s .words ++ key; count = s .count + 1 }
 

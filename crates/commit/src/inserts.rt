@@ -5,7 +5,7 @@ ghost use Prim.Native.Nat.{_≤_};
 ghost use lib.Dec.{leb};
 ghost use lib.ListN.{length};
 ghost use Rattle.tables.specs.Tables.{infoOf};
-ghost use Rattle.commit.specs.Rows.{Rows, Sound, Stand};
+ghost use Rattle.commit.specs.Rows.{Sound, Stand, asRows};
 ghost use Rattle.commit.specs.Walk.{inserted};
 use crate::records;
 use crate::rows;
@@ -29,8 +29,10 @@ fn insert_indexed(
     rows: &mut [u32],
     start: Part,
 ) -> Part
-    requires { ⌜ (info ≡ infoOf (now words) (t .0)) × Sound info × Stand (info .width) (record { words = now rows; part = start }) × (length (now rows) ≤ 16384) ⌝ }
-    ensures { λ r. ⌜ _≡_ {A = Rows} (record { words = now (rows .exit); part = r }) (inserted (now (words .entry)) (now (log .entry)) (t .0) info (record { words = now (rows .entry); part = start })) ⌝ }
+    requires { ⌜ (info ≡ infoOf (now words) (t .0)) × Sound info × Stand (info .width) (asRows (now rows) start)
+        × (length (now rows) ≤ 16384) ⌝ }
+    ensures { λ r. ⌜ asRows (now (rows .exit)) r ≡ inserted (now (words .entry)) (now (log .entry)) (t .0) info
+        (asRows (now (rows .entry)) start) ⌝ }
 {
     let mut index = [0u32; 18432];
     hash_index::build(rows, rows::table_of(info, start), &mut index);
@@ -46,8 +48,10 @@ pub fn insert_rows(
     rows: &mut [u32],
     start: Part,
 ) -> Part
-    requires { ⌜ (info ≡ infoOf (now words) (t .0)) × Sound info × Stand (info .width) (record { words = now rows; part = start }) × (length (now rows) ≤ 16384) ⌝ }
-    ensures { λ r. ⌜ _≡_ {A = Rows} (record { words = now (rows .exit); part = r }) (inserted (now (words .entry)) (now (log .entry)) (t .0) info (record { words = now (rows .entry); part = start })) ⌝ }
+    requires { ⌜ (info ≡ infoOf (now words) (t .0)) × Sound info × Stand (info .width) (asRows (now rows) start)
+        × (length (now rows) ≤ 16384) ⌝ }
+    ensures { λ r. ⌜ asRows (now (rows .exit)) r ≡ inserted (now (words .entry)) (now (log .entry)) (t .0) info
+        (asRows (now (rows .entry)) start) ⌝ }
 {
     if serves(log.len(), start.count) {
         return insert_indexed(words, log, t, info, rows, start);

@@ -13,7 +13,7 @@ ghost use lib.ListN.{length};
 ghost use Rattle.model.specs.Basics.{iter};
 ghost use Rattle.tables.specs.Tables.{infoOf, RowsStand};
 ghost use Rattle.commit.specs.Walk.{anyRemoval, goneAfter};
-ghost use Rattle.commit.specs.Commit.{Left, tableCommitted, committedRows};
+ghost use Rattle.commit.specs.Commit.{tableCommitted, committedRows, asLeft};
 use crate::rows::Part;
 use ids::TableId;
 
@@ -34,8 +34,11 @@ fn commit_table(
     mut done: Committed,
     removes: bool,
 ) -> Committed
-    requires { ⌜ (t .0 < 16) × RowsStand (now words) (infoOf (now words) (t .0)) × (length (now log) ≤ length (now gone)) × (length (now log) ≤ 16384) × (done .used ≤ length (now rows)) × (length (now rows) ≤ 16384) × (removes ≡ false → anyRemoval (now words) (now log) ≡ false) ⌝ }
-    ensures rows { λ r. ⌜ _≡_ {A = Left} (record { words = now (rows .exit); result = r }) (tableCommitted (now (words .entry)) (now (log .entry)) (t .0) (record { words = now (rows .entry); result = done })) ⌝ }
+    requires { ⌜ (t .0 < 16) × RowsStand (now words) (infoOf (now words) (t .0)) × (length (now log) ≤ length (now gone))
+        × (length (now log) ≤ 16384) × (done .used ≤ length (now rows)) × (length (now rows) ≤ 16384)
+        × (removes ≡ false → anyRemoval (now words) (now log) ≡ false) ⌝ }
+    ensures rows { λ r. ⌜ asLeft (now (rows .exit)) r ≡ tableCommitted (now (words .entry)) (now (log .entry)) (t .0)
+        (asLeft (now (rows .entry)) done) ⌝ }
     ensures gone { λ _. ⌜ now (gone .exit) ≡ goneAfter (now (words .entry)) (now (log .entry)) (t .0) (now (gone .entry)) ⌝ }
 {
     let info = tables::info_of(words, t);
@@ -72,8 +75,9 @@ fn commit_all(
     gone: &mut [u32],
     rows: &mut [u32],
 ) -> Committed
-    requires { ⌜ (tables ≤ 16) × (length (now log) ≤ 16384) × (length (now log) ≤ length (now gone)) × (length (now rows) ≤ 16384) × ((t : ℕ) → t < tables → RowsStand (now words) (infoOf (now words) t)) ⌝ }
-    ensures rows { λ r. ⌜ _≡_ {A = Left} (record { words = now (rows .exit); result = r }) (committedRows (now (words .entry)) tables (now (log .entry)) (now (rows .entry))) ⌝ }
+    requires { ⌜ (tables ≤ 16) × (length (now log) ≤ 16384) × (length (now log) ≤ length (now gone)) × (length (now rows) ≤ 16384)
+        × ((t : ℕ) → t < tables → RowsStand (now words) (infoOf (now words) t)) ⌝ }
+    ensures rows { λ r. ⌜ asLeft (now (rows .exit)) r ≡ committedRows (now (words .entry)) tables (now (log .entry)) (now (rows .entry)) ⌝ }
     ensures gone { λ _. ⌜ now (gone .exit) ≡ iter (goneAfter (now (words .entry)) (now (log .entry))) tables (now (gone .entry)) ⌝ }
 {
     let removes = may_remove(words, tables, log);
@@ -92,8 +96,9 @@ fn commit_all(
 
 // The same. The keys of a small log's removals have room in an array that is sooner cleared.
 pub fn commit(words: &[u32], tables: usize, log: &[u32], rows: &mut [u32]) -> Committed
-    requires { ⌜ (tables ≤ 16) × (length (now log) ≤ 16384) × (length (now rows) ≤ 16384) × ((t : ℕ) → t < tables → RowsStand (now words) (infoOf (now words) t)) ⌝ }
-    ensures { λ r. ⌜ _≡_ {A = Left} (record { words = now (rows .exit); result = r }) (committedRows (now (words .entry)) tables (now (log .entry)) (now (rows .entry))) ⌝ }
+    requires { ⌜ (tables ≤ 16) × (length (now log) ≤ 16384) × (length (now rows) ≤ 16384)
+        × ((t : ℕ) → t < tables → RowsStand (now words) (infoOf (now words) t)) ⌝ }
+    ensures { λ r. ⌜ asLeft (now (rows .exit)) r ≡ committedRows (now (words .entry)) tables (now (log .entry)) (now (rows .entry)) ⌝ }
 {
     if log.len() <= 1024 {
         let mut few = [0u32; 1024];

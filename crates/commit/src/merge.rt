@@ -21,7 +21,9 @@ fn merge_word(rule: u32, old: u32, new: u32) -> u32
 // The words from `at` on, each with the one of `new` at its place.
 pub fn merge_words(rows: &mut [u32], at: usize, new: &[u32], rule: u32)
     requires { ⌜ at + length (now new) ≤ length (now rows) ⌝ }
-    ensures { λ _. ⌜ now (rows .exit) ≡ sets (now (rows .entry)) at (mergeWords rule (part (now (rows .entry)) at (length (now (new .entry)))) (now (new .entry))) ⌝ }
+    ensures { λ _. ⌜ now (rows .exit) ≡ sets (now (rows .entry)) at
+        (mergeWords rule (part (now (rows .entry)) at (length (now (new .entry))))
+        (now (new .entry))) ⌝ }
 {
     let n = new.len();
     let mut i = 0;

@@ -4,7 +4,7 @@ ghost use mathlib.Core.Bool.{true};
 ghost use Prim.Native.Nat.{_+_, _≤_};
 ghost use lib.ListN.{length};
 ghost use Rattle.tables.specs.Tables.{infoOf};
-ghost use Rattle.commit.specs.Rows.{Rows, Sound, Stand};
+ghost use Rattle.commit.specs.Rows.{Sound, Stand, asRows};
 ghost use Rattle.commit.specs.Indexed.{indexFor, IndexedRows};
 ghost use Rattle.log.specs.Walk.{isInsertion};
 ghost use Rattle.commit.specs.Walk.{anyRemoval, insertRow, inserted};
@@ -38,9 +38,10 @@ fn insert(
     index: &mut [u32],
     part: Part,
 ) -> Part
-    requires { ⌜ Sound info × Stand (info .width) (record { words = now rows; part = part }) × IndexedRows info (record { words = now rows; part = part }) (now index) × (p ≤ length (now log)) × (isInsertion (now log) (t .0) p ≡ true → p + 2 + info .width ≤ length (now log)) ⌝ }
-    ensures rows { λ r. ⌜ _≡_ {A = Rows} (record { words = now (rows .exit); part = r }) (insertRow (now (log .entry)) (t .0) info p (record { words = now (rows .entry); part = part })) ⌝ }
-    ensures index { λ r. ⌜ now (index .exit) ≡ indexFor info (record { words = now (rows .exit); part = r }) (length (now (index .entry))) ⌝ }
+    requires { ⌜ Sound info × Stand (info .width) (asRows (now rows) part) × IndexedRows info (asRows (now rows) part) (now index)
+        × (p ≤ length (now log)) × (isInsertion (now log) (t .0) p ≡ true → p + 2 + info .width ≤ length (now log)) ⌝ }
+    ensures rows { λ r. ⌜ asRows (now (rows .exit)) r ≡ insertRow (now (log .entry)) (t .0) info p (asRows (now (rows .entry)) part) ⌝ }
+    ensures index { λ r. ⌜ now (index .exit) ≡ indexFor info (asRows (now (rows .exit)) r) (length (now (index .entry))) ⌝ }
 {
     if words::word(log, p + 1) != t.0 {
         return part;
@@ -63,9 +64,11 @@ pub fn insert_all(
     index: &mut [u32],
     start: Part,
 ) -> Part
-    requires { ⌜ (info ≡ infoOf (now words) (t .0)) × Sound info × Stand (info .width) (record { words = now rows; part = start }) × IndexedRows info (record { words = now rows; part = start }) (now index) ⌝ }
-    ensures rows { λ r. ⌜ _≡_ {A = Rows} (record { words = now (rows .exit); part = r }) (inserted (now (words .entry)) (now (log .entry)) (t .0) info (record { words = now (rows .entry); part = start })) ⌝ }
-    ensures index { λ r. ⌜ now (index .exit) ≡ indexFor info (record { words = now (rows .exit); part = r }) (length (now (index .entry))) ⌝ }
+    requires { ⌜ (info ≡ infoOf (now words) (t .0)) × Sound info × Stand (info .width) (asRows (now rows) start)
+        × IndexedRows info (asRows (now rows) start) (now index) ⌝ }
+    ensures rows { λ r. ⌜ asRows (now (rows .exit)) r ≡ inserted (now (words .entry)) (now (log .entry)) (t .0) info
+        (asRows (now (rows .entry)) start) ⌝ }
+    ensures index { λ r. ⌜ now (index .exit) ≡ indexFor info (asRows (now (rows .exit)) r) (length (now (index .entry))) ⌝ }
 {
     let mut part = start;
     let mut p = 0;

@@ -6,9 +6,9 @@ ghost use lib.Dec.{leb};
 ghost use lib.ListN.{length};
 ghost use Rattle.tables.specs.Tables.{infoOf, Stands, RowsStand};
 ghost use Rattle.hash_index.specs.Index.{IndexOf};
-ghost use Rattle.commit.specs.Rows.{Rows, Stand};
+ghost use Rattle.commit.specs.Rows.{Stand, asRows};
 ghost use Rattle.log.specs.Walk.{isRemoval};
-ghost use Rattle.commit.specs.Walk.{anyRemoval, Keys, storeTurn, removedKeys, laidOnto, goneAfter};
+ghost use Rattle.commit.specs.Walk.{anyRemoval, storeTurn, removedKeys, laidOnto, goneAfter, asKeys};
 ghost use Rattle.commit.specs.Commit.{kept, spareRow, spared};
 use crate::rows;
 use crate::rows::Part;
@@ -18,8 +18,9 @@ use tables::TableInfo;
 
 // If the record at p is a removal of table t, its key, of k words, is put into `gone`, past the n that are there; and how many are there then.
 fn gather(log: &[u32], p: usize, t: TableId, k: usize, gone: &mut [u32], n: usize) -> usize
-    requires { ⌜ (n * k + 2 * n ≤ p) × (p ≤ length (now log)) × (length (now log) ≤ length (now gone)) × (isRemoval (now log) (t .0) p ≡ true → p + 2 + k ≤ length (now log)) ⌝ }
-    ensures { λ r. ⌜ _≡_ {A = Keys} (record { words = now (gone .exit); count = r }) (storeTurn (now (log .entry)) (t .0) k p (record { words = now (gone .entry); count = n })) ⌝ }
+    requires { ⌜ (n * k + 2 * n ≤ p) × (p ≤ length (now log)) × (length (now log) ≤ length (now gone))
+        × (isRemoval (now log) (t .0) p ≡ true → p + 2 + k ≤ length (now log)) ⌝ }
+    ensures { λ r. ⌜ asKeys (now (gone .exit)) r ≡ storeTurn (now (log .entry)) (t .0) k p (asKeys (now (gone .entry)) n) ⌝ }
 {
     if words::word(log, p + 1) != t.0 {
         return n;
@@ -36,7 +37,9 @@ fn gather(log: &[u32], p: usize, t: TableId, k: usize, gone: &mut [u32], n: usiz
 // The same for all records, in the log's order. A removal has two words besides its key, so there is room for the keys where there is for the log.
 fn gather_all(words: &[u32], log: &[u32], t: TableId, k: usize, gone: &mut [u32]) -> usize
     requires { ⌜ (k ≡ infoOf (now words) (t .0) .keys) × (length (now log) ≤ length (now gone)) ⌝ }
-    ensures { λ r. ⌜ (r * k + 2 * r ≤ length (now (log .entry))) × (_≡_ {A = Keys} (record { words = now (gone .exit); count = r }) (laidOnto (now (gone .entry)) (removedKeys (now (words .entry)) (now (log .entry)) (t .0) k))) ⌝ }
+    ensures { λ r. ⌜ (r * k + 2 * r ≤ length (now (log .entry)))
+        × (asKeys (now (gone .exit)) r ≡ laidOnto (now (gone .entry))
+        (removedKeys (now (words .entry)) (now (log .entry)) (t .0) k)) ⌝ }
 {
     let mut n = 0;
     let mut p = 0;
@@ -58,8 +61,11 @@ fn gather_if(
     gone: &mut [u32],
     removes: bool,
 ) -> usize
-    requires { ⌜ (k ≡ infoOf (now words) (t .0) .keys) × (length (now log) ≤ length (now gone)) × (removes ≡ false → anyRemoval (now words) (now log) ≡ false) ⌝ }
-    ensures { λ r. ⌜ (r * k + 2 * r ≤ length (now (log .entry))) × (_≡_ {A = Keys} (record { words = now (gone .exit); count = r }) (laidOnto (now (gone .entry)) (removedKeys (now (words .entry)) (now (log .entry)) (t .0) k))) ⌝ }
+    requires { ⌜ (k ≡ infoOf (now words) (t .0) .keys) × (length (now log) ≤ length (now gone))
+        × (removes ≡ false → anyRemoval (now words) (now log) ≡ false) ⌝ }
+    ensures { λ r. ⌜ (r * k + 2 * r ≤ length (now (log .entry)))
+        × (asKeys (now (gone .exit)) r ≡ laidOnto (now (gone .entry))
+        (removedKeys (now (words .entry)) (now (log .entry)) (t .0) k)) ⌝ }
 {
     if removes {
         return gather_all(words, log, t, k, gone);
@@ -76,8 +82,10 @@ fn keep_row(
     rows: &mut [u32],
     part: Part,
 ) -> Part
-    requires { ⌜ Stands (now gone) removed × IndexOf (now gone) removed (now index) × (removed .keys ≤ length (now row)) × (part .used ≤ length (now rows)) × (part .count ≤ length (now rows)) ⌝ }
-    ensures { λ r. ⌜ _≡_ {A = Rows} (record { words = now (rows .exit); part = r }) (spareRow (now (gone .entry)) removed (now (row .entry)) (record { words = now (rows .entry); part = part })) ⌝ }
+    requires { ⌜ Stands (now gone) removed × IndexOf (now gone) removed (now index) × (removed .keys ≤ length (now row))
+        × (part .used ≤ length (now rows)) × (part .count ≤ length (now rows)) ⌝ }
+    ensures { λ r. ⌜ asRows (now (rows .exit)) r ≡ spareRow (now (gone .entry)) removed (now (row .entry))
+        (asRows (now (rows .entry)) part) ⌝ }
 {
     let key = tables::key_of(row, removed.keys);
     match hash_index::look_up(gone, index, removed, &key) {
@@ -96,8 +104,10 @@ fn keep_all(
     rows: &mut [u32],
     start: Part,
 ) -> Part
-    requires { ⌜ RowsStand (now words) info × Stands (now gone) removed × IndexOf (now gone) removed (now index) × (removed .keys ≤ info .width) × Stand (info .width) (record { words = now rows; part = start }) ⌝ }
-    ensures { λ r. ⌜ _≡_ {A = Rows} (record { words = now (rows .exit); part = r }) (spared (now (gone .entry)) removed (now (words .entry)) (info .at) (info .width) (info .rows) (record { words = now (rows .entry); part = start })) ⌝ }
+    requires { ⌜ RowsStand (now words) info × Stands (now gone) removed × IndexOf (now gone) removed (now index)
+        × (removed .keys ≤ info .width) × Stand (info .width) (asRows (now rows) start) ⌝ }
+    ensures { λ r. ⌜ asRows (now (rows .exit)) r ≡ spared (now (gone .entry)) removed (now (words .entry)) (info .at) (info .width)
+        (info .rows) (asRows (now (rows .entry)) start) ⌝ }
 {
     let n = info.rows;
     let width = info.width;
@@ -132,8 +142,10 @@ fn keep_indexed(
     rows: &mut [u32],
     start: Part,
 ) -> Part
-    requires { ⌜ RowsStand (now words) info × Stands (now gone) removed × (removed .rows ≤ 16384) × (removed .keys ≤ info .width) × Stand (info .width) (record { words = now rows; part = start }) ⌝ }
-    ensures { λ r. ⌜ _≡_ {A = Rows} (record { words = now (rows .exit); part = r }) (spared (now (gone .entry)) removed (now (words .entry)) (info .at) (info .width) (info .rows) (record { words = now (rows .entry); part = start })) ⌝ }
+    requires { ⌜ RowsStand (now words) info × Stands (now gone) removed × (removed .rows ≤ 16384) × (removed .keys ≤ info .width)
+        × Stand (info .width) (asRows (now rows) start) ⌝ }
+    ensures { λ r. ⌜ asRows (now (rows .exit)) r ≡ spared (now (gone .entry)) removed (now (words .entry)) (info .at) (info .width)
+        (info .rows) (asRows (now (rows .entry)) start) ⌝ }
 {
     let mut index = [0u32; 18432];
     hash_index::build(gone, removed, &mut index);
@@ -151,8 +163,11 @@ pub fn keep(
     start: Part,
     removes: bool,
 ) -> Part
-    requires { ⌜ (info ≡ infoOf (now words) (t .0)) × RowsStand (now words) info × (length (now log) ≤ length (now gone)) × (length (now log) ≤ 16384) × Stand (info .width) (record { words = now rows; part = start }) × (removes ≡ false → anyRemoval (now words) (now log) ≡ false) ⌝ }
-    ensures rows { λ r. ⌜ _≡_ {A = Rows} (record { words = now (rows .exit); part = r }) (kept (now (words .entry)) (now (log .entry)) (t .0) info (info .rows) (record { words = now (rows .entry); part = start })) ⌝ }
+    requires { ⌜ (info ≡ infoOf (now words) (t .0)) × RowsStand (now words) info × (length (now log) ≤ length (now gone))
+        × (length (now log) ≤ 16384) × Stand (info .width) (asRows (now rows) start)
+        × (removes ≡ false → anyRemoval (now words) (now log) ≡ false) ⌝ }
+    ensures rows { λ r. ⌜ asRows (now (rows .exit)) r ≡ kept (now (words .entry)) (now (log .entry)) (t .0) info (info .rows)
+        (asRows (now (rows .entry)) start) ⌝ }
     ensures gone { λ _. ⌜ now (gone .exit) ≡ goneAfter (now (words .entry)) (now (log .entry)) (t .0) (now (gone .entry)) ⌝ }
 {
     let n = gather_if(words, log, t, info.keys, gone, removes);

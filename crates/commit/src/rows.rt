@@ -3,7 +3,7 @@ ghost use mathlib.Core.Path.{_≡_};
 ghost use Prim.Native.Nat.{_≤_};
 ghost use lib.ListN.{length};
 ghost use Rattle.tables.specs.Tables.{foundRow};
-ghost use Rattle.commit.specs.Rows.{Rows, Sound, Stand, newInfo, appended, putRow};
+ghost use Rattle.commit.specs.Rows.{Sound, Stand, newInfo, appended, putRow, asRows};
 ghost use Rattle.commit.specs.Indexed.{indexFor, IndexedRows};
 use crate::merge;
 use tables::Found;
@@ -20,7 +20,7 @@ pub struct Part {
 // One row more, past the used words. Where a row has no room, neither it nor any after it is added.
 pub fn append(rows: &mut [u32], part: Part, row: &[u32]) -> Part
     requires { ⌜ (part .used ≤ length (now rows)) × (part .count ≤ length (now rows)) ⌝ }
-    ensures { λ r. ⌜ _≡_ {A = Rows} (record { words = now (rows .exit); part = r }) (appended (now (row .entry)) (record { words = now (rows .entry); part = part })) ⌝ }
+    ensures { λ r. ⌜ asRows (now (rows .exit)) r ≡ appended (now (row .entry)) (asRows (now (rows .entry)) part) ⌝ }
 {
     let from = part.from;
     let count = part.count;
@@ -60,7 +60,7 @@ pub fn table_of(info: TableInfo, part: Part) -> TableInfo
 
 // The row with the key, by the index of the rows; an empty index is none, and all rows are looked at.
 fn find(rows: &[u32], index: &[u32], part: Part, info: TableInfo, key: &[u32; 16]) -> Found
-    requires { ⌜ Sound info × Stand (info .width) (record { words = now rows; part = part }) × IndexedRows info (record { words = now rows; part = part }) (now index) ⌝ }
+    requires { ⌜ Sound info × Stand (info .width) (asRows (now rows) part) × IndexedRows info (asRows (now rows) part) (now index) ⌝ }
     ensures { λ r. ⌜ r ≡ foundRow (now (rows .entry)) (newInfo info part) (now (key .entry)) ⌝ }
 {
     hash_index::look_up(rows, index, table_of(info, part), key)
@@ -74,9 +74,10 @@ fn append_noted(
     info: TableInfo,
     row: &[u32],
 ) -> Part
-    requires { ⌜ Sound info × Stand (info .width) (record { words = now rows; part = part }) × IndexedRows info (record { words = now rows; part = part }) (now index) × (length (now row) ≡ info .width) ⌝ }
-    ensures rows { λ r. ⌜ _≡_ {A = Rows} (record { words = now (rows .exit); part = r }) (appended (now (row .entry)) (record { words = now (rows .entry); part = part })) ⌝ }
-    ensures index { λ r. ⌜ now (index .exit) ≡ indexFor info (record { words = now (rows .exit); part = r }) (length (now (index .entry))) ⌝ }
+    requires { ⌜ Sound info × Stand (info .width) (asRows (now rows) part) × IndexedRows info (asRows (now rows) part) (now index)
+        × (length (now row) ≡ info .width) ⌝ }
+    ensures rows { λ r. ⌜ asRows (now (rows .exit)) r ≡ appended (now (row .entry)) (asRows (now (rows .entry)) part) ⌝ }
+    ensures index { λ r. ⌜ now (index .exit) ≡ indexFor info (asRows (now (rows .exit)) r) (length (now (index .entry))) ⌝ }
 {
     let longer = append(rows, part, row);
     if index.len() == 0 {
@@ -91,9 +92,10 @@ fn append_noted(
 
 // A row of the log. Its values are merged into the row that has its key; else it is appended.
 pub fn put(rows: &mut [u32], index: &mut [u32], part: Part, info: TableInfo, row: &[u32]) -> Part
-    requires { ⌜ Sound info × Stand (info .width) (record { words = now rows; part = part }) × IndexedRows info (record { words = now rows; part = part }) (now index) × (length (now row) ≡ info .width) ⌝ }
-    ensures rows { λ r. ⌜ _≡_ {A = Rows} (record { words = now (rows .exit); part = r }) (putRow info (now (row .entry)) (record { words = now (rows .entry); part = part })) ⌝ }
-    ensures index { λ r. ⌜ now (index .exit) ≡ indexFor info (record { words = now (rows .exit); part = r }) (length (now (index .entry))) ⌝ }
+    requires { ⌜ Sound info × Stand (info .width) (asRows (now rows) part) × IndexedRows info (asRows (now rows) part) (now index)
+        × (length (now row) ≡ info .width) ⌝ }
+    ensures rows { λ r. ⌜ asRows (now (rows .exit)) r ≡ putRow info (now (row .entry)) (asRows (now (rows .entry)) part) ⌝ }
+    ensures index { λ r. ⌜ now (index .exit) ≡ indexFor info (asRows (now (rows .exit)) r) (length (now (index .entry))) ⌝ }
 {
     let k = info.keys;
     let key = tables::key_of(row, k);

@@ -41,6 +41,9 @@ pub record Settling : Type 0 where
   pub rows : List ℕ
   pub answer : List ℕ
 
+abbrev pub asSettling : Outcome → (rows answer : List ℕ) → Settling
+asSettling outcome rows answer = record { outcome = outcome; rows = rows; answer = answer }
+
 abbrev pub byLength : Assembled → Outcome
 byLength (Words n) = Accepted n
 byLength Over = Refused 16 0

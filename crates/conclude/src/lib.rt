@@ -7,7 +7,7 @@ ghost use Prim.Native.Nat.{_≤_};
 ghost use lib.ListN.{length};
 ghost use Rattle.model.specs.Book.Contents.{firstStep, tableCount};
 ghost use Rattle.model.specs.Laws.Book.{Readable};
-ghost use Rattle.conclude.specs.End.{Settling, Settles, RanOn, byLength, settled, concluded};
+ghost use Rattle.conclude.specs.End.{Settles, RanOn, byLength, settled, concluded, asSettling};
 
 // Accepted, with how many words the answer has; or refused by a number of document 01's table, with a place.
 pub enum Outcome {
@@ -33,8 +33,10 @@ fn settle(
     tables: &mut [u32],
     answer: &mut [u32],
 ) -> Outcome
-    requires { ⌜ Readable (now words) × (count ≡ tableCount (now words)) × (length (now tables) ≤ 16384) × Settles (now words) p (now log) (now answer) ⌝ }
-    ensures { λ r. ⌜ _≡_ {A = Settling} (record { outcome = r; rows = now (tables .exit); answer = now (answer .exit) }) (settled (now (words .entry)) p (now (log .entry)) (now (tables .entry)) (now (answer .entry))) ⌝ }
+    requires { ⌜ Readable (now words) × (count ≡ tableCount (now words)) × (length (now tables) ≤ 16384)
+        × Settles (now words) p (now log) (now answer) ⌝ }
+    ensures { λ r. ⌜ asSettling r (now (tables .exit)) (now (answer .exit))
+        ≡ settled (now (words .entry)) p (now (log .entry)) (now (tables .entry)) (now (answer .entry)) ⌝ }
 {
     let state = p.state;
     let used = state.used;
@@ -56,8 +58,10 @@ pub fn conclude(
     tables: &mut [u32],
     answer: &mut [u32],
 ) -> Outcome
-    requires { ⌜ Readable (now words) × (first ≡ firstStep (now words)) × (count ≡ tableCount (now words)) × (p .done ≤ 64) × (length (now tables) ≤ 16384) × RanOn (now words) p (now log) (now answer) ⌝ }
-    ensures { λ r. ⌜ _≡_ {A = Settling} (record { outcome = r; rows = now (tables .exit); answer = now (answer .exit) }) (concluded (now (words .entry)) p (now (log .entry)) (now (tables .entry)) (now (answer .entry))) ⌝ }
+    requires { ⌜ Readable (now words) × (first ≡ firstStep (now words)) × (count ≡ tableCount (now words)) × (p .done ≤ 64)
+        × (length (now tables) ≤ 16384) × RanOn (now words) p (now log) (now answer) ⌝ }
+    ensures { λ r. ⌜ asSettling r (now (tables .exit)) (now (answer .exit))
+        ≡ concluded (now (words .entry)) p (now (log .entry)) (now (tables .entry)) (now (answer .entry)) ⌝ }
 {
     let state = p.state;
     let stop = state.stop;

@@ -65,8 +65,12 @@ fn run_book(
     tables: &mut [u32],
     answer: &mut [u32],
 ) -> Outcome
-    requires { ⌜ Runnable (now words) × (now bindings ≡ replicate 8192 0) × (now index ≡ replicate 8192 0) × (now log ≡ replicate (length (now log)) 0) × (length (now log) ≤ 16384) × (length (now tables) ≤ 16384) × (now answer ≡ replicate (length (now answer)) 0) ⌝ }
-    ensures { λ r. ⌜ Concludes (now (words .entry)) (lentOf (now (bindings .entry)) (now (index .entry)) (now (log .entry)) (now (tables .entry)) (now (answer .entry))) r (now (answer .exit)) ⌝ }
+    requires { ⌜ Runnable (now words) × (now bindings ≡ replicate 8192 0) × (now index ≡ replicate 8192 0)
+        × (now log ≡ replicate (length (now log)) 0) × (length (now log) ≤ 16384) × (length (now tables) ≤ 16384)
+        × (now answer ≡ replicate (length (now answer)) 0) ⌝ }
+    ensures { λ r. ⌜ Concludes (now (words .entry))
+        (lentOf (now (bindings .entry)) (now (index .entry)) (now (log .entry)) (now (tables .entry))
+        (now (answer .entry))) r (now (answer .exit)) ⌝ }
 {
     let z = contents::sizes_of(words);
     let count = words::size(z.tables);
@@ -98,8 +102,12 @@ fn decide_words(
     tables: &mut [u32],
     answer: &mut [u32],
 ) -> Outcome
-    requires { ⌜ (bytesRefusal (now book) ≡ none) × (length (wordsOf (now book)) ≤ length (now words)) × (now bindings ≡ replicate 8192 0) × (now index ≡ replicate 8192 0) × (now log ≡ replicate (length (now log)) 0) × (length (now log) ≤ 16384) × (length (now tables) ≤ 16384) × (now answer ≡ replicate (length (now answer)) 0) ⌝ }
-    ensures { λ r. ⌜ Decided (lentOf (now (bindings .entry)) (now (index .entry)) (now (log .entry)) (now (tables .entry)) (now (answer .entry))) (now (book .entry)) r (now (answer .exit)) ⌝ }
+    requires { ⌜ (bytesRefusal (now book) ≡ none) × (length (wordsOf (now book)) ≤ length (now words))
+        × (now bindings ≡ replicate 8192 0) × (now index ≡ replicate 8192 0) × (now log ≡ replicate (length (now log)) 0)
+        × (length (now log) ≤ 16384) × (length (now tables) ≤ 16384) × (now answer ≡ replicate (length (now answer)) 0) ⌝ }
+    ensures { λ r. ⌜ Decided
+        (lentOf (now (bindings .entry)) (now (index .entry)) (now (log .entry)) (now (tables .entry))
+        (now (answer .entry))) (now (book .entry)) r (now (answer .exit)) ⌝ }
 {
     let n = book::load_words(book, words);
     match rules::first_refusal(&words[..n]) {
@@ -117,8 +125,12 @@ fn decide_book(
     tables: &mut [u32],
     answer: &mut [u32],
 ) -> Outcome
-    requires { ⌜ (bytesRefusal (now book) ≡ none) × (now bindings ≡ replicate 8192 0) × (now index ≡ replicate 8192 0) × (now log ≡ replicate (length (now log)) 0) × (length (now log) ≤ 16384) × (length (now tables) ≤ 16384) × (now answer ≡ replicate (length (now answer)) 0) ⌝ }
-    ensures { λ r. ⌜ Decided (lentOf (now (bindings .entry)) (now (index .entry)) (now (log .entry)) (now (tables .entry)) (now (answer .entry))) (now (book .entry)) r (now (answer .exit)) ⌝ }
+    requires { ⌜ (bytesRefusal (now book) ≡ none) × (now bindings ≡ replicate 8192 0) × (now index ≡ replicate 8192 0)
+        × (now log ≡ replicate (length (now log)) 0) × (length (now log) ≤ 16384) × (length (now tables) ≤ 16384)
+        × (now answer ≡ replicate (length (now answer)) 0) ⌝ }
+    ensures { λ r. ⌜ Decided
+        (lentOf (now (bindings .entry)) (now (index .entry)) (now (log .entry)) (now (tables .entry))
+        (now (answer .entry))) (now (book .entry)) r (now (answer .exit)) ⌝ }
 {
     if book.len() <= 4096 {
         let mut few = [0u32; 1024];
@@ -144,8 +156,11 @@ fn decide(
     tables: &mut [u32],
     answer: &mut [u32],
 ) -> Outcome
-    requires { ⌜ (now bindings ≡ replicate (length (now bindings)) 0) × (now index ≡ replicate (length (now index)) 0) × (now log ≡ replicate (length (now log)) 0) × (now answer ≡ replicate (length (now answer)) 0) ⌝ }
-    ensures { λ r. ⌜ Decided (lentOf (now (bindings .entry)) (now (index .entry)) (now (log .entry)) (now (tables .entry)) (now (answer .entry))) (now (book .entry)) r (now (answer .exit)) ⌝ }
+    requires { ⌜ (now bindings ≡ replicate (length (now bindings)) 0) × (now index ≡ replicate (length (now index)) 0)
+        × (now log ≡ replicate (length (now log)) 0) × (now answer ≡ replicate (length (now answer)) 0) ⌝ }
+    ensures { λ r. ⌜ Decided
+        (lentOf (now (bindings .entry)) (now (index .entry)) (now (log .entry)) (now (tables .entry))
+        (now (answer .entry))) (now (book .entry)) r (now (answer .exit)) ⌝ }
 {
     if !lengths_fit(bindings.len(), index.len(), log.len(), tables.len()) {
         return Outcome::Refused(14, 0);
@@ -175,7 +190,9 @@ pub fn run(
     tables: &mut [u32],
     answer: &mut [u32],
 ) -> Outcome
-    ensures outcome { λ r. ⌜ Permitted (lentOf (now (bindings .entry)) (now (index .entry)) (now (log .entry)) (now (tables .entry)) (now (answer .entry))) (now (book .entry)) (outcomeOf r (now (answer .exit))) ⌝ }
+    ensures outcome { λ r. ⌜ Permitted
+        (lentOf (now (bindings .entry)) (now (index .entry)) (now (log .entry)) (now (tables .entry))
+        (now (answer .entry))) (now (book .entry)) (outcomeOf r (now (answer .exit))) ⌝ }
     ensures answer { λ r. ⌜ AnswerLeft r (length (now (answer .entry))) (now (answer .exit)) ⌝ }
     ensures bindings { λ _. ⌜ now (bindings .exit) ≡ replicate (length (now (bindings .entry))) 0 ⌝ }
     ensures index { λ _. ⌜ now (index .exit) ≡ replicate (length (now (index .entry))) 0 ⌝ }

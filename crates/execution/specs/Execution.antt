@@ -33,6 +33,9 @@ pub record Logged : Type 0 where
   pub state : ExecutionState
   pub log : List ℕ
 
+abbrev pub asLogged : ExecutionState → List ℕ → Logged
+asLogged state log = record { state = state; log = log }
+
 -- after an attempt to append
 abbrev pub afterAppend : Appended → ExecutionState → ExecutionState
 afterAppend (Used n) s = record { used = n; counters = s .counters; changed = s .changed; stop = s .stop }

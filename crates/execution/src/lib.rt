@@ -11,7 +11,7 @@ ghost use Prim.Native.Nat.{_≤_};
 ghost use lib.ListN.{length, getD};
 ghost use Rattle.instr.specs.Stands.{Short};
 ghost use Rattle.lanes.specs.Lanes.{listed};
-ghost use Rattle.execution.specs.Execution.{isGoing, stopped, changing, Logged, staged, stagedChange, stagedLane, stagedLanes};
+ghost use Rattle.execution.specs.Execution.{isGoing, stopped, changing, staged, stagedChange, stagedLane, stagedLanes, asLogged};
 ghost use Rattle.execution.specs.declared.Change.the-variants.{Insert, Remove};
 
 // A run goes on; or a counter would have passed its limit (refusal 13), or a record the end of the log (refusal 12).
@@ -91,7 +91,8 @@ impl ExecutionState {
         log: &mut [u32],
     ) -> Self
         requires { ⌜ (self .used ≤ length (now log)) × (count ≤ 16) ⌝ }
-        ensures is { λ r. ⌜ _≡_ {A = Logged} (record { state = r; log = now (log .exit) }) (stagedChange Insert (table .0) (now (row .entry)) count (record { state = self; log = now (log .entry) })) ⌝ }
+        ensures is { λ r. ⌜ asLogged r (now (log .exit)) ≡ stagedChange Insert (table .0) (now (row .entry)) count
+            (asLogged self (now (log .entry))) ⌝ }
         ensures fits { λ r. ⌜ r .used ≤ length (now (log .entry)) ⌝ }
     {
         let t = stage(self, 0, table, row, count, log);
@@ -107,7 +108,8 @@ impl ExecutionState {
         log: &mut [u32],
     ) -> Self
         requires { ⌜ (self .used ≤ length (now log)) × (count ≤ 16) ⌝ }
-        ensures is { λ r. ⌜ _≡_ {A = Logged} (record { state = r; log = now (log .exit) }) (stagedChange Remove (table .0) (now (row .entry)) count (record { state = self; log = now (log .entry) })) ⌝ }
+        ensures is { λ r. ⌜ asLogged r (now (log .exit)) ≡ stagedChange Remove (table .0) (now (row .entry)) count
+            (asLogged self (now (log .entry))) ⌝ }
         ensures fits { λ r. ⌜ r .used ≤ length (now (log .entry)) ⌝ }
     {
         let t = stage(self, 1, table, row, count, log);
@@ -125,7 +127,7 @@ pub fn stage(
     log: &mut [u32],
 ) -> ExecutionState
     requires { ⌜ (s .used ≤ length (now log)) × (count ≤ 16) ⌝ }
-    ensures is { λ r. ⌜ _≡_ {A = Logged} (record { state = r; log = now (log .exit) }) (staged kind (table .0) (now (row .entry)) count (record { state = s; log = now (log .entry) })) ⌝ }
+    ensures is { λ r. ⌜ asLogged r (now (log .exit)) ≡ staged kind (table .0) (now (row .entry)) count (asLogged s (now (log .entry))) ⌝ }
     ensures fits { λ r. ⌜ r .used ≤ length (now (log .entry)) ⌝ }
 {
     let used = s.used;
@@ -149,7 +151,9 @@ fn stage_lane(
     log: &mut [u32],
 ) -> ExecutionState
     requires { ⌜ Short (what .vals) × (s .used ≤ length (now log)) ⌝ }
-    ensures is { λ r. ⌜ _≡_ {A = Logged} (record { state = r; log = now (log .exit) }) (stagedLane (what .change) (what .table .0) (listed (now (words .entry)) (now (bindings .entry)) (lane .0) (what .vals)) live (record { state = s; log = now (log .entry) })) ⌝ }
+    ensures is { λ r. ⌜ asLogged r (now (log .exit)) ≡ stagedLane (what .change) (what .table .0)
+        (listed (now (words .entry)) (now (bindings .entry)) (lane .0) (what .vals))
+        live (asLogged s (now (log .entry))) ⌝ }
     ensures fits { λ r. ⌜ r .used ≤ length (now (log .entry)) ⌝ }
 {
     if live & s.going() {
@@ -174,7 +178,9 @@ pub fn stage_lanes(
     log: &mut [u32],
 ) -> ExecutionState
     requires { ⌜ Short (what .vals) × (start .used ≤ length (now log)) ⌝ }
-    ensures is { λ r. ⌜ _≡_ {A = Logged} (record { state = r; log = now (log .exit) }) (stagedLanes (what .change) (what .table .0) (λ i. listed (now (words .entry)) (now (bindings .entry)) i (what .vals)) (mask .live) (record { state = start; log = now (log .entry) })) ⌝ }
+    ensures is { λ r. ⌜ asLogged r (now (log .exit)) ≡ stagedLanes (what .change) (what .table .0)
+        (λ i. listed (now (words .entry)) (now (bindings .entry)) i (what .vals))
+        (mask .live) (asLogged start (now (log .entry))) ⌝ }
     ensures fits { λ r. ⌜ r .used ≤ length (now (log .entry)) ⌝ }
 {
     let n = mask.end();

@@ -22,7 +22,8 @@ pub fn rows_before(words: &[u32], n: usize) -> usize
 
 // All rows of the first n tables, into an index that is zero.
 pub fn build_all(words: &[u32], n: usize, index: &mut [u32])
-    requires { ⌜ (n ≤ 16) × ((t : ℕ) → t < n → Stands (now words) (infoOf (now words) t)) × (rowsBefore (now words) n ≤ 16384) × (now index ≡ replicate 18432 0) ⌝ }
+    requires { ⌜ (n ≤ 16) × ((t : ℕ) → t < n → Stands (now words) (infoOf (now words) t)) × (rowsBefore (now words) n ≤ 16384)
+        × (now index ≡ replicate 18432 0) ⌝ }
     ensures { λ _. ⌜ now (index .exit) ≡ bookIndexed (now (words .entry)) n ⌝ }
 {
     let mut first = 0;

@@ -149,7 +149,8 @@ pub fn fill(
 ) -> Mask
     requires { ⌜ AskFits (now words) (now committed) ask × (length (now out) ≡ 256) ⌝ }
     ensures lanes { λ r. ⌜ r .live ≡ answeredLanes (asked (now (words .entry)) (now (bindings .entry)) ask) (mask .live) ⌝ }
-    ensures words { λ r. ⌜ now (out .exit) ≡ answeredWords (asked (now (words .entry)) (now (bindings .entry)) ask) (mask .live) (now (out .entry)) ⌝ }
+    ensures words { λ r. ⌜ now (out .exit) ≡ answeredWords (asked (now (words .entry)) (now (bindings .entry)) ask) (mask .live)
+        (now (out .entry)) ⌝ }
 {
     let mut found = Mask::new(0);
     let n = mask.end();

@@ -37,11 +37,17 @@ pub record Held : Type 0 where
   pub log : List ℕ
   pub index : List ℕ
 
+abbrev pub asHeld : ExecutionState → (log index : List ℕ) → Held
+asHeld state log index = record { state = state; log = log; index = index }
+
 -- what was got, and the log and index after it
 pub record Gotten : Type 0 where
   pub got : Got
   pub log : List ℕ
   pub index : List ℕ
+
+abbrev pub asGotten : Got → (log index : List ℕ) → Gotten
+asGotten got log index = record { got = got; log = log; index = index }
 
 -- with the lanes' words
 pub record Served : Type 0 where
@@ -49,6 +55,9 @@ pub record Served : Type 0 where
   pub log : List ℕ
   pub index : List ℕ
   pub out : List ℕ
+
+abbrev pub asServed : ExecutionState → (log index out : List ℕ) → Served
+asServed state log index out = record { state = state; log = log; index = index; out = out }
 
 abbrev pub stoppedBy : Stop → ExecutionState → Got
 stoppedBy why s = record { made = false; state = stopped why s }

@@ -14,7 +14,7 @@ ghost use Prim.Native.Nat.{_≤_, _<_};
 ghost use lib.ListN.{length};
 ghost use Rattle.predicted.specs.Row.{Searchable};
 ghost use Rattle.instr.specs.Stands.{Short};
-ghost use Rattle.predict.specs.Predict.{Ready, Gotten, stoppedBy, inserted, gotten, takenWord, Served, servedLane, servedLanes, noted, answered};
+ghost use Rattle.predict.specs.Predict.{Ready, stoppedBy, inserted, gotten, takenWord, servedLane, servedLanes, noted, answered, asGotten, asHeld, asServed};
 
 // Which row is asked for: of which table, and the write values of a new one.
 pub struct Row {
@@ -58,7 +58,9 @@ fn insert(
     index: &mut [u32],
 ) -> Got
     requires { ⌜ Short (row .vals) × (key .count ≤ 16) × Ready s (now log) (now index) × (slot < 8192) ⌝ }
-    ensures is { λ r. ⌜ _≡_ {A = Gotten} (record { got = r; log = now (log .exit); index = now (index .exit) }) (inserted (now (words .entry)) (now (bindings .entry)) (lane .0) row key slot (record { state = s; log = now (log .entry); index = now (index .entry) })) ⌝ }
+    ensures is { λ r. ⌜ asGotten r (now (log .exit)) (now (index .exit))
+        ≡ inserted (now (words .entry)) (now (bindings .entry)) (lane .0) row key slot
+        (asHeld s (now (log .entry)) (now (index .entry))) ⌝ }
     ensures fits { λ r. ⌜ r .state .used ≤ length (now (log .entry)) ⌝ }
 {
     let b = build::build(words, bindings, lane, key, row.vals, s.counters);
@@ -98,7 +100,9 @@ impl PredictedVals {
         index: &mut [u32],
     ) -> Got
         requires { ⌜ Short (row .vals) × (row .of .info .keys ≤ 16) × (key .count ≤ 16) × Ready s (now log) (now index) ⌝ }
-        ensures is { λ r. ⌜ _≡_ {A = Gotten} (record { got = r; log = now (log .exit); index = now (index .exit) }) (gotten (now (words .entry)) (now (bindings .entry)) (lane .0) row key (record { state = s; log = now (log .entry); index = now (index .entry) })) ⌝ }
+        ensures is { λ r. ⌜ asGotten r (now (log .exit)) (now (index .exit))
+            ≡ gotten (now (words .entry)) (now (bindings .entry)) (lane .0) row key
+            (asHeld s (now (log .entry)) (now (index .entry))) ⌝ }
         ensures fits { λ r. ⌜ r .state .used ≤ length (now (log .entry)) ⌝ }
     {
         let vals = key.vals;
@@ -127,7 +131,8 @@ fn take<'a>(
     out: &mut [u32],
 )
     requires { ⌜ Searchable (now words) (now committed) (ask .row .of) × (lane .0 < length (now out)) ⌝ }
-    ensures { λ _. ⌜ now (out .exit) ≡ takenWord (now (words .entry)) ask (key .vals) (lane .0) going (now (log .entry)) (now (index .entry)) (now (out .entry)) ⌝ }
+    ensures { λ _. ⌜ now (out .exit) ≡ takenWord (now (words .entry)) ask (key .vals) (lane .0) going (now (log .entry))
+        (now (index .entry)) (now (out .entry)) ⌝ }
 {
     if going {
         let vals = key.vals;
@@ -150,8 +155,11 @@ fn serve_lane(
     index: &mut [u32],
     out: &mut [u32],
 ) -> ExecutionState
-    requires { ⌜ Searchable (now words) (now committed) (ask .row .of) × Short (ask .key) × Short (ask .row .vals) × Ready s (now log) (now index) × (lane .0 < length (now out)) ⌝ }
-    ensures is { λ r. ⌜ _≡_ {A = Served} (record { state = r; log = now (log .exit); index = now (index .exit); out = now (out .exit) }) (servedLane (now (words .entry)) (now (bindings .entry)) ask live (lane .0) (record { state = s; log = now (log .entry); index = now (index .entry); out = now (out .entry) })) ⌝ }
+    requires { ⌜ Searchable (now words) (now committed) (ask .row .of) × Short (ask .key) × Short (ask .row .vals)
+        × Ready s (now log) (now index) × (lane .0 < length (now out)) ⌝ }
+    ensures is { λ r. ⌜ asServed r (now (log .exit)) (now (index .exit)) (now (out .exit))
+        ≡ servedLane (now (words .entry)) (now (bindings .entry)) ask live (lane .0)
+        (asServed s (now (log .entry)) (now (index .entry)) (now (out .entry))) ⌝ }
     ensures fits { λ r. ⌜ r .used ≤ length (now (log .entry)) ⌝ }
 {
     if live & s.going() {
@@ -185,8 +193,11 @@ pub fn serve_lanes(
     index: &mut [u32],
     out: &mut [u32],
 ) -> ExecutionState
-    requires { ⌜ Searchable (now words) (now committed) (ask .row .of) × Short (ask .key) × Short (ask .row .vals) × Ready start (now log) (now index) × (length (now out) ≡ 256) ⌝ }
-    ensures is { λ r. ⌜ _≡_ {A = Served} (record { state = r; log = now (log .exit); index = now (index .exit); out = now (out .exit) }) (servedLanes (now (words .entry)) (now (bindings .entry)) ask (mask .live) (record { state = start; log = now (log .entry); index = now (index .entry); out = now (out .entry) })) ⌝ }
+    requires { ⌜ Searchable (now words) (now committed) (ask .row .of) × Short (ask .key) × Short (ask .row .vals)
+        × Ready start (now log) (now index) × (length (now out) ≡ 256) ⌝ }
+    ensures is { λ r. ⌜ asServed r (now (log .exit)) (now (index .exit)) (now (out .exit))
+        ≡ servedLanes (now (words .entry)) (now (bindings .entry)) ask (mask .live)
+        (asServed start (now (log .entry)) (now (index .entry)) (now (out .entry))) ⌝ }
     ensures fits { λ r. ⌜ r .used ≤ length (now (log .entry)) ⌝ }
 {
     let n = mask.end();
@@ -234,7 +245,9 @@ pub fn predict_val(
     index: &mut [u32],
 ) -> Got
     requires { ⌜ Searchable (now words) (now committed) (row .of) × Short (row .vals) × (key .count ≤ 16) × Ready s (now log) (now index) ⌝ }
-    ensures is { λ r. ⌜ _≡_ {A = Gotten} (record { got = r; log = now (log .exit); index = now (index .exit) }) (answered (now (words .entry)) (now (bindings .entry)) row key (record { state = s; log = now (log .entry); index = now (index .entry) })) ⌝ }
+    ensures is { λ r. ⌜ asGotten r (now (log .exit)) (now (index .exit))
+        ≡ answered (now (words .entry)) (now (bindings .entry)) row key
+        (asHeld s (now (log .entry)) (now (index .entry))) ⌝ }
     ensures fits { λ r. ⌜ r .state .used ≤ length (now (log .entry)) ⌝ }
 {
     let vals = key.vals;

@@ -32,7 +32,9 @@ impl Sought {
 // The predicted row with the key, or no words.
 fn in_log<'a>(log: &'a [u32], index: &[u32], of: Sought, key: &[u32; 16]) -> &'a [u32]
     requires { ⌜ of .info .keys ≤ 16 ⌝ }
-    ensures { λ r. ⌜ now r ≡ predictedPart (now (log .entry)) (of .info .width) (slotOf homeOf (now (index .entry)) (now (log .entry)) (of .table .0) (now (key .entry)) (of .info .keys)) ⌝ }
+    ensures { λ r. ⌜ now r ≡ predictedPart (now (log .entry)) (of .info .width)
+        (slotOf homeOf (now (index .entry)) (now (log .entry)) (of .table .0) (now (key .entry))
+        (of .info .keys)) ⌝ }
 {
     // No home is worked out for an index that has no rows.
     if index.len() == 0 {

@@ -46,7 +46,8 @@ fn pair(end: usize, words: &[u32], sizes: Sizes, from: u32, to: u32, s: Scan) ->
 
 // A count, 16 at most, and as many entries or write values.
 pub fn pairs(end: usize, words: &[u32], sizes: Sizes, from: u32, to: u32, s: Scan) -> Scan
-    ensures { λ r. ⌜ scanOf r ≡ spec.list end (now (words .entry)) 16 (spec.pair end (now (words .entry)) (sizesOf sizes) from to) (scanOf s) ⌝ }
+    ensures { λ r. ⌜ scanOf r ≡ spec.list end (now (words .entry)) 16 (spec.pair end (now (words .entry)) (sizesOf sizes) from to)
+        (scanOf s) ⌝ }
 {
     let n = scan::peek(words, s);
     let mut t = scan::word(end, words, Test::UpTo(16), s);

@@ -50,7 +50,8 @@ fn rest(words: &[u32]) -> &[u32]
 // A line of two numbers: how many lines there were, and `second`.
 fn pair(out: &mut [u8], lines: Lines, name: &[u8], second: u32) -> Lines
     requires { ⌜ lines .count < 4294967296 ⌝ }
-    ensures text { λ r. ⌜ upTo (now (out .exit)) (r .at) ≡ appended (named (now (name .entry)) (lines .count ∷ second ∷ [])) (upTo (now (out .entry)) (lines .at)) ⌝ }
+    ensures text { λ r. ⌜ upTo (now (out .exit)) (r .at) ≡ appended (named (now (name .entry)) (lines .count ∷ second ∷ []))
+        (upTo (now (out .entry)) (lines .at)) ⌝ }
     ensures count { λ r. ⌜ r .count ≡ lines .count + 1 ⌝ }
 {
     let numbers = [second];
@@ -118,7 +119,8 @@ fn entry(words: &[u32], family: Family, i: usize, out: &mut [u8], lines: Lines) 
 
 // The lines of all entries of a family, from the byte `at` on.
 pub fn numbered(words: &[u32], family: Family, out: &mut [u8], at: usize) -> usize
-    ensures { λ r. ⌜ upTo (now (out .exit)) r ≡ appended (Text·text (familyLines (now (words .entry)) family)) (upTo (now (out .entry)) at) ⌝ }
+    ensures { λ r. ⌜ upTo (now (out .exit)) r ≡ appended (Text·text (familyLines (now (words .entry)) family))
+        (upTo (now (out .entry)) at) ⌝ }
 {
     let n = words::size(words::word(words, 0));
     let mut lines = Lines { count: 0, at };
@@ -133,7 +135,8 @@ pub fn numbered(words: &[u32], family: Family, out: &mut [u8], at: usize) -> usi
 // The line of the record at p, whose words end before `end`.
 fn record_line(log: &[u32], p: usize, end: usize, out: &mut [u8], at: usize) -> usize
     requires { ⌜ (p + 2 ≤ end) × (end ≤ length (now log)) ⌝ }
-    ensures { λ r. ⌜ upTo (now (out .exit)) r ≡ appended (Text·text (recordLine (now (log .entry)) p end ∷ [])) (upTo (now (out .entry)) at) ⌝ }
+    ensures { λ r. ⌜ upTo (now (out .exit)) r ≡ appended (Text·text (recordLine (now (log .entry)) p end ∷ []))
+        (upTo (now (out .entry)) at) ⌝ }
 {
     let table = text::wide_word(words::word(log, p + 1));
     let row = &log[p + 2..end];
@@ -146,7 +149,8 @@ fn record_line(log: &[u32], p: usize, end: usize, out: &mut [u8], at: usize) -> 
 
 // The lines of all records.
 fn records(words: &[u32], log: &[u32], out: &mut [u8], at: usize) -> usize
-    ensures { λ r. ⌜ upTo (now (out .exit)) r ≡ appended (Text·text (recordLines (now (words .entry)) (now (log .entry)))) (upTo (now (out .entry)) at) ⌝ }
+    ensures { λ r. ⌜ upTo (now (out .exit)) r ≡ appended (Text·text (recordLines (now (words .entry)) (now (log .entry))))
+        (upTo (now (out .entry)) at) ⌝ }
 {
     let mut next = at;
     let mut p = 0;

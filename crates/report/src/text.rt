@@ -65,7 +65,8 @@ pub fn numbers(out: &mut [u8], at: usize, ns: &[u32]) -> usize
 
 // A line: its name, a number, further numbers.
 pub fn line(out: &mut [u8], at: usize, name: &[u8], first: u64, rest: &[u32]) -> usize
-    ensures { λ r. ⌜ upTo (now (out .exit)) r ≡ appended (named (now (name .entry)) (first ∷ now (rest .entry))) (upTo (now (out .entry)) at) ⌝ }
+    ensures { λ r. ⌜ upTo (now (out .exit)) r ≡ appended (named (now (name .entry)) (first ∷ now (rest .entry)))
+        (upTo (now (out .entry)) at) ⌝ }
 {
     let next = append(out, at, name);
     let next = number(out, next, first);

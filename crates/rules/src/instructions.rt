@@ -127,7 +127,8 @@ fn held_free(words: &[u32], i: Instr) -> bool
 // Refusal 9 is not drawn: its column and its current values lie in the row.
 fn columns_fit(words: &[u32], i: Instr) -> bool
     requires { ⌜ Readable (now words) × Stands (now words) i ⌝ }
-    ensures { λ r. ⌜ r ≡ all check.below? (check.columnsOf (tables (now (words .entry))) functions.arity (instrOf (now (words .entry)) i)) ⌝ }
+    ensures { λ r. ⌜ r ≡ all check.below?
+        (check.columnsOf (tables (now (words .entry))) functions.arity (instrOf (now (words .entry)) i)) ⌝ }
 {
     match i {
         Instr::LookupOrInsertDefault {
@@ -162,7 +163,8 @@ fn columns_fit(words: &[u32], i: Instr) -> bool
 
 // The first of 8, 7, 10 and 9 whose test failed.
 fn drawn(p: usize, fit: bool, known: bool, free: bool, inside: bool) -> Checking
-    ensures { λ r. ⌜ refusalOf r ≡ placedAt p (check.refuse fit 8 (check.refuse known 7 (check.refuse free 10 (check.refuse inside 9 none)))) ⌝ }
+    ensures { λ r. ⌜ refusalOf r ≡ placedAt p
+        (check.refuse fit 8 (check.refuse known 7 (check.refuse free 10 (check.refuse inside 9 none)))) ⌝ }
 {
     if !fit {
         return Checking::Size(p);
@@ -182,7 +184,9 @@ fn drawn(p: usize, fit: bool, known: bool, free: bool, inside: bool) -> Checking
 // What an instruction draws, whose opcode stands at p.
 pub fn check_instr(words: &[u32], p: usize, i: Instr, bound: Bound) -> Checking
     requires { ⌜ Readable (now words) × Stands (now words) i ⌝ }
-    ensures { λ r. ⌜ refusalOf r ≡ placedAt p (check.checkInstr (tables (now (words .entry))) functions.arity (has bound) (instrOf (now (words .entry)) i)) ⌝ }
+    ensures { λ r. ⌜ refusalOf r ≡ placedAt p
+        (check.checkInstr (tables (now (words .entry))) functions.arity (has bound)
+        (instrOf (now (words .entry)) i)) ⌝ }
 {
     let fit = sizes_fit(words, i);
     let known = reads_known(words, i, bound);

@@ -22,6 +22,9 @@ pub record Ran : Type 0 where
   pub index : List ℕ
   pub answer : List ℕ
 
+abbrev pub asRan : Progress → (bindings log index answer : List ℕ) → Ran
+asRan progress bindings log index answer = record { progress = progress; bindings = bindings; log = log; index = index; answer = answer }
+
 -- fewer than 64 steps have answered, of 8483 words each at most
 pub record Early (p : Progress) : Type 0 where
   pub done : p .done < 64

@@ -8,7 +8,7 @@ ghost use Rattle.model.specs.Laws.Book.{Readable};
 ghost use Rattle.hash_index.specs.Book.{rowsBefore, BookIndex};
 ghost use Rattle.predict.specs.Predict.{Ready};
 ghost use Rattle.steps.specs.Steps.{IsStep};
-ghost use Rattle.run.specs.Progress.{Ran, Early, advanced, halted, batchStep, predictionStep, ranNext, ranSteps};
+ghost use Rattle.run.specs.Progress.{Early, advanced, halted, batchStep, predictionStep, ranNext, ranSteps, asRan};
 
 // What the run keeps, how many steps have answered, how many words their bodies have in all, and each.
 pub struct Progress {
@@ -60,8 +60,12 @@ fn batch_step(
     index: &mut [u32],
     answer: &mut [u32],
 ) -> Progress
-    requires { ⌜ Readable (now words) × BookIndex (now words) (tableCount (now words)) (now committed) × (base ≡ firstRule (now words)) × IsStep (now words) i × (kindOf (now words) i ≡ 4) × Early p × Ready (p .state) (now log) (now index) × (length (now bindings) ≡ 8192) ⌝ }
-    ensures is { λ r. ⌜ _≡_ {A = Ran} (record { progress = r; bindings = now (bindings .exit); log = now (log .exit); index = now (index .exit); answer = now (answer .exit) }) (batchStep (now (words .entry)) i (record { progress = p; bindings = now (bindings .entry); log = now (log .entry); index = now (index .entry); answer = now (answer .entry) })) ⌝ }
+    requires { ⌜ Readable (now words) × BookIndex (now words) (tableCount (now words)) (now committed) × (base ≡ firstRule (now words))
+        × IsStep (now words) i × (kindOf (now words) i ≡ 4) × Early p × Ready (p .state) (now log) (now index)
+        × (length (now bindings) ≡ 8192) ⌝ }
+    ensures is { λ r. ⌜ asRan r (now (bindings .exit)) (now (log .exit)) (now (index .exit)) (now (answer .exit))
+        ≡ batchStep (now (words .entry)) i
+        (asRan p (now (bindings .entry)) (now (log .entry)) (now (index .entry)) (now (answer .entry))) ⌝ }
     ensures fits { λ r. ⌜ (r .state .used ≤ length (now (log .entry))) × (r .done ≤ p .done + 1) × (r .at ≤ p .at + 8483) ⌝ }
 {
     let before = p.state;
@@ -85,8 +89,11 @@ fn prediction_step(
     index: &mut [u32],
     answer: &mut [u32],
 ) -> Progress
-    requires { ⌜ Readable (now words) × BookIndex (now words) (tableCount (now words)) (now committed) × IsStep (now words) i × (kindOf (now words) i ≡ 5) × Early p × Ready (p .state) (now log) (now index) ⌝ }
-    ensures is { λ r. ⌜ _≡_ {A = Ran} (record { progress = r; bindings = now (bindings .entry); log = now (log .exit); index = now (index .exit); answer = now (answer .exit) }) (predictionStep (now (words .entry)) i (record { progress = p; bindings = now (bindings .entry); log = now (log .entry); index = now (index .entry); answer = now (answer .entry) })) ⌝ }
+    requires { ⌜ Readable (now words) × BookIndex (now words) (tableCount (now words)) (now committed) × IsStep (now words) i
+        × (kindOf (now words) i ≡ 5) × Early p × Ready (p .state) (now log) (now index) ⌝ }
+    ensures is { λ r. ⌜ asRan r (now (bindings .entry)) (now (log .exit)) (now (index .exit)) (now (answer .exit))
+        ≡ predictionStep (now (words .entry)) i
+        (asRan p (now (bindings .entry)) (now (log .entry)) (now (index .entry)) (now (answer .entry))) ⌝ }
     ensures fits { λ r. ⌜ (r .state .used ≤ length (now (log .entry))) × (r .done ≤ p .done + 1) × (r .at ≤ p .at + 8483) ⌝ }
 {
     let before = p.state;
@@ -112,8 +119,12 @@ fn run_next(
     index: &mut [u32],
     answer: &mut [u32],
 ) -> Progress
-    requires { ⌜ Readable (now words) × BookIndex (now words) (tableCount (now words)) (now committed) × (base ≡ firstRule (now words)) × (first ≡ firstStep (now words)) × (p .done < stepCount (now words)) × Early p × Ready (p .state) (now log) (now index) × (length (now bindings) ≡ 8192) ⌝ }
-    ensures is { λ r. ⌜ _≡_ {A = Ran} (record { progress = r; bindings = now (bindings .exit); log = now (log .exit); index = now (index .exit); answer = now (answer .exit) }) (ranNext (now (words .entry)) (record { progress = p; bindings = now (bindings .entry); log = now (log .entry); index = now (index .entry); answer = now (answer .entry) })) ⌝ }
+    requires { ⌜ Readable (now words) × BookIndex (now words) (tableCount (now words)) (now committed) × (base ≡ firstRule (now words))
+        × (first ≡ firstStep (now words)) × (p .done < stepCount (now words)) × Early p
+        × Ready (p .state) (now log) (now index) × (length (now bindings) ≡ 8192) ⌝ }
+    ensures is { λ r. ⌜ asRan r (now (bindings .exit)) (now (log .exit)) (now (index .exit)) (now (answer .exit))
+        ≡ ranNext (now (words .entry))
+        (asRan p (now (bindings .entry)) (now (log .entry)) (now (index .entry)) (now (answer .entry))) ⌝ }
     ensures fits { λ r. ⌜ (r .state .used ≤ length (now (log .entry))) × (r .done ≤ p .done + 1) × (r .at ≤ p .at + 8483) ⌝ }
 {
     let state = p.state;
@@ -140,8 +151,12 @@ fn run_by(
     index: &mut [u32],
     answer: &mut [u32],
 ) -> Progress
-    requires { ⌜ Readable (now words) × BookIndex (now words) (tableCount (now words)) (now committed) × (base ≡ firstRule (now words)) × (first ≡ firstStep (now words)) × (steps ≡ stepCount (now words)) × (start .done ≡ 0) × (start .at ≡ 0) × Ready (start .state) (now log) (now index) × (length (now bindings) ≡ 8192) ⌝ }
-    ensures is { λ r. ⌜ _≡_ {A = Ran} (record { progress = r; bindings = now (bindings .exit); log = now (log .exit); index = now (index .exit); answer = now (answer .exit) }) (ranSteps (now (words .entry)) steps (record { progress = start; bindings = now (bindings .entry); log = now (log .entry); index = now (index .entry); answer = now (answer .entry) })) ⌝ }
+    requires { ⌜ Readable (now words) × BookIndex (now words) (tableCount (now words)) (now committed) × (base ≡ firstRule (now words))
+        × (first ≡ firstStep (now words)) × (steps ≡ stepCount (now words)) × (start .done ≡ 0) × (start .at ≡ 0)
+        × Ready (start .state) (now log) (now index) × (length (now bindings) ≡ 8192) ⌝ }
+    ensures is { λ r. ⌜ asRan r (now (bindings .exit)) (now (log .exit)) (now (index .exit)) (now (answer .exit))
+        ≡ ranSteps (now (words .entry)) steps
+        (asRan start (now (bindings .entry)) (now (log .entry)) (now (index .entry)) (now (answer .entry))) ⌝ }
     ensures fits { λ r. ⌜ (r .state .used ≤ length (now (log .entry))) × (r .done ≤ 64) × (r .at ≤ 1048576) ⌝ }
 {
     let mut p = start;
@@ -176,8 +191,12 @@ fn run_indexed(
     index: &mut [u32],
     answer: &mut [u32],
 ) -> Progress
-    requires { ⌜ Readable (now words) × (tables ≡ tableCount (now words)) × (rowsBefore (now words) tables ≤ 16384) × (base ≡ firstRule (now words)) × (first ≡ firstStep (now words)) × (steps ≡ stepCount (now words)) × (start .done ≡ 0) × (start .at ≡ 0) × Ready (start .state) (now log) (now index) × (length (now bindings) ≡ 8192) ⌝ }
-    ensures is { λ r. ⌜ _≡_ {A = Ran} (record { progress = r; bindings = now (bindings .exit); log = now (log .exit); index = now (index .exit); answer = now (answer .exit) }) (ranSteps (now (words .entry)) steps (record { progress = start; bindings = now (bindings .entry); log = now (log .entry); index = now (index .entry); answer = now (answer .entry) })) ⌝ }
+    requires { ⌜ Readable (now words) × (tables ≡ tableCount (now words)) × (rowsBefore (now words) tables ≤ 16384)
+        × (base ≡ firstRule (now words)) × (first ≡ firstStep (now words)) × (steps ≡ stepCount (now words))
+        × (start .done ≡ 0) × (start .at ≡ 0) × Ready (start .state) (now log) (now index) × (length (now bindings) ≡ 8192) ⌝ }
+    ensures is { λ r. ⌜ asRan r (now (bindings .exit)) (now (log .exit)) (now (index .exit)) (now (answer .exit))
+        ≡ ranSteps (now (words .entry)) steps
+        (asRan start (now (bindings .entry)) (now (log .entry)) (now (index .entry)) (now (answer .entry))) ⌝ }
     ensures fits { λ r. ⌜ (r .state .used ≤ length (now (log .entry))) × (r .done ≤ 64) × (r .at ≤ 1048576) ⌝ }
 {
     let mut committed = [0u32; 18432];
@@ -209,8 +228,12 @@ pub fn run_steps(
     index: &mut [u32],
     answer: &mut [u32],
 ) -> Progress
-    requires { ⌜ Readable (now words) × (tables ≡ tableCount (now words)) × (base ≡ firstRule (now words)) × (first ≡ firstStep (now words)) × (steps ≡ stepCount (now words)) × (start .done ≡ 0) × (start .at ≡ 0) × Ready (start .state) (now log) (now index) × (length (now bindings) ≡ 8192) ⌝ }
-    ensures is { λ r. ⌜ _≡_ {A = Ran} (record { progress = r; bindings = now (bindings .exit); log = now (log .exit); index = now (index .exit); answer = now (answer .exit) }) (ranSteps (now (words .entry)) steps (record { progress = start; bindings = now (bindings .entry); log = now (log .entry); index = now (index .entry); answer = now (answer .entry) })) ⌝ }
+    requires { ⌜ Readable (now words) × (tables ≡ tableCount (now words)) × (base ≡ firstRule (now words))
+        × (first ≡ firstStep (now words)) × (steps ≡ stepCount (now words)) × (start .done ≡ 0) × (start .at ≡ 0)
+        × Ready (start .state) (now log) (now index) × (length (now bindings) ≡ 8192) ⌝ }
+    ensures is { λ r. ⌜ asRan r (now (bindings .exit)) (now (log .exit)) (now (index .exit)) (now (answer .exit))
+        ≡ ranSteps (now (words .entry)) steps
+        (asRan start (now (bindings .entry)) (now (log .entry)) (now (index .entry)) (now (answer .entry))) ⌝ }
     ensures fits { λ r. ⌜ (r .state .used ≤ length (now (log .entry))) × (r .done ≤ 64) × (r .at ≤ 1048576) ⌝ }
 {
     if hash_index::serves(hash_index::rows_before(words, tables)) {

@@ -28,7 +28,8 @@ fn front_words(words: &[u32], n: usize) -> &[u32]
 
 // The lines of what the engine returned and left in the answer, at the front of `out`. The second clause hands on what the answer's type says of its words.
 fn lines(outcome: Outcome, answer: &[u32], out: &mut [u8]) -> usize
-    ensures text { λ r. ⌜ upTo (now (out .exit)) r ≡ appended (text (outcomeLines (outcomeOf outcome (now (answer .entry))))) (upTo (now (out .entry)) 0) ⌝ }
+    ensures text { λ r. ⌜ upTo (now (out .exit)) r ≡ appended (text (outcomeLines (outcomeOf outcome (now (answer .entry)))))
+        (upTo (now (out .entry)) 0) ⌝ }
     ensures words { λ _. ⌜ ((i : ℕ) → getD (now (answer .entry)) i 0 < 4294967296) ⌝ }
 {
     match outcome {
@@ -40,7 +41,8 @@ fn lines(outcome: Outcome, answer: &[u32], out: &mut [u8]) -> usize
 // Runs a book with 8192 words of bindings and of index and 16384 each of log, tables and answer, and puts its lines at the front of `out`, whose rest stays as it was. Answers how many bytes they have. The lines of an answer have 11 bytes a word at most, so all of them have room.
 pub fn respond(book: &[u8], out: &mut [u8]) -> usize
     requires { ⌜ 180224 ≤ length (now out) ⌝ }
-    ensures text { λ _. ⌜ now (out .exit) ≡ text (printed dispatchLends (now (book .entry))) ++ drop (length (text (printed dispatchLends (now (book .entry))))) (now (out .entry)) ⌝ }
+    ensures text { λ _. ⌜ now (out .exit) ≡ text (printed dispatchLends (now (book .entry)))
+        ++ drop (length (text (printed dispatchLends (now (book .entry))))) (now (out .entry)) ⌝ }
     ensures size { λ r. ⌜ (r ≡ length (text (printed dispatchLends (now (book .entry))))) × (r ≤ 180224) ⌝ }
 {
     let mut bindings = [0u32; 8192];

@@ -23,6 +23,10 @@ predictionWords made row = flag made ∷ row
 abbrev pub columnWords : List ℕ → ℕ → Bool → ℕ → List ℕ
 columnWords m lanes known v = cond known (v ∷ part m (256 * v) lanes) []
 
+-- each bound variable and its column, smallest first
+abbrev pub columnsWords : List ℕ → ℕ → List Bool → List ℕ
+columnsWords m lanes known = runs (λ v. columnWords m lanes (getD known v false) v) 32
+
 -- of a batch: how many lanes survive, how many there are, how many variables are bound; then these, smallest first, each before its column; then a flag for each lane
 unfoldable pub batchWords : (lanes : ℕ) (known : List Bool) (m : List ℕ) (live : List Bool) → List ℕ
-batchWords lanes known m live = count live ∷ lanes ∷ howMany (λ v. getD known v false) 32 ∷ runs (λ v. columnWords m lanes (getD known v false) v) 32 ++ tab (λ i. flag (getD live i false)) lanes
+batchWords lanes known m live = count live ∷ lanes ∷ howMany (λ v. getD known v false) 32 ∷ columnsWords m lanes known ++ tab (λ i. flag (getD live i false)) lanes

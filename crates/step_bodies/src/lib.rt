@@ -6,8 +6,7 @@ ghost use lib.Seq.{sets};
 ghost use mathlib.Core.Bool.{false};
 ghost use Rattle.model.specs.Basics.{tab, howMany};
 ghost use Rattle.model.specs.Answer as model;
-ghost use Rattle.step_bodies.specs.Runs.{runs};
-ghost use Rattle.step_bodies.specs.Steps.{placed, columnWords, batchWords, predictionWords};
+ghost use Rattle.step_bodies.specs.Steps.{placed, columnWords, columnsWords, batchWords, predictionWords};
 
 pub mod put;
 
@@ -54,7 +53,8 @@ fn write_column(
     at: usize,
     answer: &mut [u32],
 ) -> usize
-    requires { ⌜ (v .0 < 32) × (lanes ≤ 256) × (length (now bindings) ≡ 8192) × (at + length (columnWords (now bindings) lanes known (v .0)) ≤ length (now answer)) ⌝ }
+    requires { ⌜ (v .0 < 32) × (lanes ≤ 256) × (length (now bindings) ≡ 8192)
+        × (at + length (columnWords (now bindings) lanes known (v .0)) ≤ length (now answer)) ⌝ }
     ensures words { λ _. ⌜ now (answer .exit) ≡ sets (now (answer .entry)) at (columnWords (now (bindings .entry)) lanes known (v .0)) ⌝ }
     ensures end { λ r. ⌜ r ≡ at + length (columnWords (now (bindings .entry)) lanes known (v .0)) ⌝ }
 {
@@ -74,9 +74,11 @@ fn write_columns(
     start: usize,
     answer: &mut [u32],
 ) -> usize
-    requires { ⌜ (lanes ≤ 256) × (length (now bindings) ≡ 8192) × (start + length (runs (λ v. columnWords (now bindings) lanes (getD (bound .known) v false) v) 32) ≤ length (now answer)) ⌝ }
-    ensures words { λ _. ⌜ now (answer .exit) ≡ sets (now (answer .entry)) start (runs (λ v. columnWords (now (bindings .entry)) lanes (getD (bound .known) v false) v) 32) ⌝ }
-    ensures end { λ r. ⌜ r ≡ start + length (runs (λ v. columnWords (now (bindings .entry)) lanes (getD (bound .known) v false) v) 32) ⌝ }
+    requires { ⌜ (lanes ≤ 256) × (length (now bindings) ≡ 8192)
+        × (start + length (columnsWords (now bindings) lanes (bound .known)) ≤ length (now answer)) ⌝ }
+    ensures words { λ _. ⌜ now (answer .exit)
+        ≡ sets (now (answer .entry)) start (columnsWords (now (bindings .entry)) lanes (bound .known)) ⌝ }
+    ensures end { λ r. ⌜ r ≡ start + length (columnsWords (now (bindings .entry)) lanes (bound .known)) ⌝ }
 {
     let mut at = start;
     let mut v = 0;
@@ -115,7 +117,8 @@ pub fn write_batch(
     answer: &mut [u32],
 ) -> usize
     requires { ⌜ (length (now bindings) ≡ 8192) × (kept .matches ≤ 256) × (at ≤ 2 ^ 32) ⌝ }
-    ensures words { λ _. ⌜ now (answer .exit) ≡ placed (batchWords (kept .matches) (kept .bound .known) (now (bindings .entry)) (mask .live)) at (now (answer .entry)) ⌝ }
+    ensures words { λ _. ⌜ now (answer .exit) ≡ placed (batchWords (kept .matches) (kept .bound .known) (now (bindings .entry)) (mask .live))
+        at (now (answer .entry)) ⌝ }
     ensures end { λ r. ⌜ r ≡ at + length (batchWords (kept .matches) (kept .bound .known) (now (bindings .entry)) (mask .live)) ⌝ }
 {
     let bound = kept.bound;

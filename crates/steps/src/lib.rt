@@ -15,8 +15,8 @@ ghost use lib.ListN.{length};
 ghost use Rattle.model.specs.Book.Contents.{endOf, firstOf, firstRule, kindOf, tableCount};
 ghost use Rattle.model.specs.Laws.Book.{Readable};
 ghost use Rattle.hash_index.specs.Book.{BookIndex};
-ghost use Rattle.predict.specs.Predict.{Ready, Gotten};
-ghost use Rattle.action.specs.Run.{Running};
+ghost use Rattle.predict.specs.Predict.{Ready, asGotten};
+ghost use Rattle.action.specs.Run.{asRunning};
 ghost use Rattle.steps.specs.Steps.{IsStep, laneCount, ranBatch, keyAsked, askedRow, rowAnswered};
 
 // With no columns a batch has one lane.
@@ -37,8 +37,11 @@ pub fn run_batch(
     log: &mut [u32],
     index: &mut [u32],
 ) -> Batch
-    requires { ⌜ Readable (now words) × BookIndex (now words) (tableCount (now words)) (now committed) × (base ≡ firstRule (now words)) × IsStep (now words) i × (kindOf (now words) i ≡ 4) × Ready state (now log) (now index) × (length (now bindings) ≡ 8192) ⌝ }
-    ensures is { λ r. ⌜ _≡_ {A = Running} (record { batch = r; bindings = now (bindings .exit); log = now (log .exit); index = now (index .exit) }) (ranBatch (now (words .entry)) (firstOf (now (words .entry)) i) state (now (log .entry)) (now (index .entry))) ⌝ }
+    requires { ⌜ Readable (now words) × BookIndex (now words) (tableCount (now words)) (now committed) × (base ≡ firstRule (now words))
+        × IsStep (now words) i × (kindOf (now words) i ≡ 4) × Ready state (now log) (now index)
+        × (length (now bindings) ≡ 8192) ⌝ }
+    ensures is { λ r. ⌜ asRunning r (now (bindings .exit)) (now (log .exit)) (now (index .exit))
+        ≡ ranBatch (now (words .entry)) (firstOf (now (words .entry)) i) state (now (log .entry)) (now (index .entry)) ⌝ }
     ensures fits { λ r. ⌜ r .state .used ≤ length (now (log .entry)) ⌝ }
 {
     let at = contents::first_of(words, i);
@@ -80,8 +83,11 @@ pub fn run_prediction(
     log: &mut [u32],
     index: &mut [u32],
 ) -> Got
-    requires { ⌜ Readable (now words) × BookIndex (now words) (tableCount (now words)) (now committed) × IsStep (now words) i × (kindOf (now words) i ≡ 5) × Ready state (now log) (now index) ⌝ }
-    ensures is { λ r. ⌜ _≡_ {A = Gotten} (record { got = r; log = now (log .exit); index = now (index .exit) }) (askedRow (now (words .entry)) (now (bindings .entry)) (firstOf (now (words .entry)) i) state (now (log .entry)) (now (index .entry))) ⌝ }
+    requires { ⌜ Readable (now words) × BookIndex (now words) (tableCount (now words)) (now committed) × IsStep (now words) i
+        × (kindOf (now words) i ≡ 5) × Ready state (now log) (now index) ⌝ }
+    ensures is { λ r. ⌜ asGotten r (now (log .exit)) (now (index .exit))
+        ≡ askedRow (now (words .entry)) (now (bindings .entry)) (firstOf (now (words .entry)) i) state
+        (now (log .entry)) (now (index .entry)) ⌝ }
     ensures fits { λ r. ⌜ r .state .used ≤ length (now (log .entry)) ⌝ }
 {
     let at = contents::first_of(words, i);
@@ -110,7 +116,8 @@ pub fn row_answered<'a>(
     index: &[u32],
     i: usize,
 ) -> &'a [u32]
-    requires { ⌜ Readable (now words) × BookIndex (now words) (tableCount (now words)) (now committed) × IsStep (now words) i × (kindOf (now words) i ≡ 5) ⌝ }
+    requires { ⌜ Readable (now words) × BookIndex (now words) (tableCount (now words)) (now committed) × IsStep (now words) i
+        × (kindOf (now words) i ≡ 5) ⌝ }
     ensures { λ r. ⌜ now r ≡ rowAnswered (now (words .entry)) (firstOf (now (words .entry)) i) (now (log .entry)) (now (index .entry)) ⌝ }
 {
     let at = contents::first_of(words, i);

@@ -32,7 +32,9 @@ pub extern "C" fn dispatch_run(
     tables: &mut [u32],
     answer: &mut [u32],
 ) -> u64
-    ensures outcome { λ r. ⌜ Returned (lentOf (now (bindings .entry)) (now (index .entry)) (now (log .entry)) (now (tables .entry)) (now (answer .entry))) (now (book .entry)) r (now (answer .exit)) ⌝ }
+    ensures outcome { λ r. ⌜ Returned
+        (lentOf (now (bindings .entry)) (now (index .entry)) (now (log .entry)) (now (tables .entry))
+        (now (answer .entry))) (now (book .entry)) r (now (answer .exit)) ⌝ }
     ensures bindings { λ _. ⌜ now (bindings .exit) ≡ replicate (length (now (bindings .entry))) 0 ⌝ }
     ensures index { λ _. ⌜ now (index .exit) ≡ replicate (length (now (index .entry))) 0 ⌝ }
     ensures log { λ _. ⌜ now (log .exit) ≡ replicate (length (now (log .entry))) 0 ⌝ }
