@@ -17,5 +17,5 @@ table-stands w h t l =
     let r = table-read w (h .contents) (h .bodies) t l in
     stands w (firstOf w t) (sizes w) (endOf w t) (r .1) (r .0 .within)
 
-pub searchable : (w committed : List ℕ) → Readable w → BookIndex w (tableCount w) committed → (t : TableId) → t .0 < tableCount w → Searchable w committed (soughtIn w t)
-searchable w committed h b t l = record { stands = table-stands w h (t .0) l; indexed = book-has w (tableCount w) committed b (t .0) l }
+pub searchable : (w rowIndex : List ℕ) → Readable w → BookIndex w (tableCount w) rowIndex → (t : TableId) → t .0 < tableCount w → Searchable w rowIndex (soughtIn w t)
+searchable w rowIndex h b t l = record { stands = table-stands w h (t .0) l; indexed = book-has w (tableCount w) rowIndex b (t .0) l }
