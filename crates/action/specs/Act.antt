@@ -6,7 +6,7 @@ use lib.ListN.{getD}
 use Rattle.ids.specs.declared.TableId.{TableId}
 use Rattle.ids.specs.declared.ColumnId.{ColumnId}
 use Rattle.mask.specs.Masks.{firstLanes, united, without}
-use Rattle.predicted.specs.Row.{soughtIn}
+use Rattle.predicted_index.specs.Row.{soughtIn}
 use Rattle.instr.specs.declared.Entries.{Entries}
 use Rattle.instr.specs.declared.Instr.{Instr}
 use Rattle.instr.specs.declared.Instr.the-variants.{LookupOrInsertDefault, LookupWithDefault, Lookup, LookupWithFallback, Insert, InsertIfEq, Remove, External, ExternalWithFallback, AssertEq, AssertNe, AssertAnyNe, ReadCounter}

@@ -10,7 +10,7 @@ use Rattle.tables.specs.TablesLaws.{stands}
 use Rattle.hash_index.specs.Book.{BookIndex}
 use Rattle.hash_index.specs.BookLaws.{book-has}
 use Rattle.ids.specs.declared.TableId.{TableId}
-use Rattle.predicted.specs.Row.{soughtIn, Searchable}
+use Rattle.predicted_index.specs.Row.{soughtIn, Searchable}
 
 pub table-stands : (w : List ℕ) → Readable w → (t : ℕ) → t < tableCount w → Stands w (infoOf w t)
 table-stands w h t l =

@@ -7,7 +7,7 @@ use lanes::Ask;
 use mask::Mask;
 use predict::Asking;
 use predict::Row;
-use predicted::Sought;
+use predicted_index::Sought;
 ghost use mathlib.Core.Path.{_≡_};
 ghost use Prim.Native.Nat.{_≤_, _<_};
 ghost use lib.ListN.{length};

@@ -1,7 +1,7 @@
 -- What is kept beside the lent words.
 use Prim.Native.Nat.{ℕ}
 use mathlib.Core.Option.{Option}
-use Rattle.bound.specs.Bound.{binding}
+use Rattle.bound_vars.specs.Bound.{binding}
 use Rattle.bindings.specs.declared.Bindings.{Bindings}
 
 -- with a variable more

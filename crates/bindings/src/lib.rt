@@ -1,6 +1,6 @@
 // The bindings of a batch: 32 columns of 256 lent words, variable v in lane i at 256 * v + i; and what is kept beside them.
 use args::Args;
-use bound::Bound;
+use bound_vars::Bound;
 use ids::Lane;
 use ids::Variable;
 ghost use mathlib.Core.Path.{_≡_};

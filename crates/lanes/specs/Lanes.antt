@@ -16,8 +16,8 @@ use Rattle.instr.specs.declared.QueryEntry.the-variants as entry
 use Rattle.instr.specs.declared.Entries.{Entries}
 use Rattle.instr.specs.Meaning.{entryOf}
 use Rattle.instr.specs.Stands.{Short}
-use Rattle.predicted.specs.Home.{homeOf}
-use Rattle.predicted.specs.Row.{Searchable, rowOf}
+use Rattle.predicted_index.specs.Home.{homeOf}
+use Rattle.predicted_index.specs.Row.{Searchable, rowOf}
 use Rattle.lanes.specs.declared.Ask.{Ask}
 use Rattle.lanes.specs.declared.Ask.the-variants.{Lookup, External, Var, Const}
 use Rattle.lanes.specs.declared.Test.{Test}

@@ -8,7 +8,7 @@ use ids::Variable;
 use instr::Entries;
 use instr::QueryEntry;
 use mask::Mask;
-use predicted::Sought;
+use predicted_index::Sought;
 ghost use mathlib.Core.Path.{_≡_};
 ghost use mathlib.Core.Bool.{false, _&&_, not};
 ghost use Prim.Native.Nat.{_+_, _*_, _≤_, _<_, min};
@@ -93,7 +93,14 @@ fn answer(words: &[u32], row_index: &[u32], bindings: &[u32], ask: Ask, lane: La
             let args = fetch(words, bindings, key, lane);
             let vals = args.vals;
             // the log is not looked at
-            let row = predicted::row_of(words, &words[..0], row_index, &words[..0], of, &vals);
+            let row = predicted_index::row_of(
+                words,
+                &words[..0],
+                row_index,
+                &words[..0],
+                of,
+                &vals,
+            );
             column(row, col)
         }
         Ask::External { func, args } => functions::invoke(func, fetch(words, bindings, args, lane)),

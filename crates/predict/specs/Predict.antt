@@ -9,11 +9,11 @@ use Rattle.args.specs.declared.Args.{Args}
 use Rattle.tables.specs.declared.Found.{Found}
 use Rattle.tables.specs.declared.Found.the-variants.{At, Nothing}
 use Rattle.tables.specs.Tables.{foundRow}
-use Rattle.predicted.specs.declared.Slot.{Slot}
-use Rattle.predicted.specs.declared.Slot.the-variants.{Hit, Free, Full as NoSlot}
-use Rattle.predicted.specs.Home.{homeOf}
-use Rattle.predicted.specs.Index.{slotOf}
-use Rattle.predicted.specs.Row.{rowOf}
+use Rattle.predicted_index.specs.declared.Slot.{Slot}
+use Rattle.predicted_index.specs.declared.Slot.the-variants.{Hit, Free, Full as NoSlot}
+use Rattle.predicted_index.specs.Home.{homeOf}
+use Rattle.predicted_index.specs.Index.{slotOf}
+use Rattle.predicted_index.specs.Row.{rowOf}
 use Rattle.lanes.specs.Lanes.{listed}
 use Rattle.build.specs.declared.Building.{Building}
 use Rattle.build.specs.Build.{built}

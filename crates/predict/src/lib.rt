@@ -6,13 +6,13 @@ use ids::ColumnId;
 use ids::Lane;
 use instr::Entries;
 use mask::Mask;
-use predicted::Slot;
-use predicted::Sought;
+use predicted_index::Slot;
+use predicted_index::Sought;
 use tables::Found;
 ghost use mathlib.Core.Path.{_≡_};
 ghost use Prim.Native.Nat.{_≤_, _<_};
 ghost use lib.ListN.{length};
-ghost use Rattle.predicted.specs.Row.{Searchable};
+ghost use Rattle.predicted_index.specs.Row.{Searchable};
 ghost use Rattle.instr.specs.Stands.{Short};
 ghost use Rattle.predict.specs.Predict.{Ready, stoppedBy, inserted, gotten, takenWord, servedLane, servedLanes, noted, answered, asGotten, asHeld, asServed};
 
@@ -74,7 +74,7 @@ fn insert(
     let vals = built.vals;
     let t = execution::stage(started, 2, row.of.table, &vals, built.count, log);
     if t.going() {
-        predicted::insert(index, slot, s.used);
+        predicted_index::insert(index, slot, s.used);
         return Got {
             made: true,
             state: t,
@@ -106,7 +106,7 @@ impl PredictedVals {
         ensures fits { λ r. ⌜ r .state .used ≤ length (now (log .entry)) ⌝ }
     {
         let vals = key.vals;
-        match predicted::get(index, log, row.of.table, &vals, row.of.info.keys) {
+        match predicted_index::get(index, log, row.of.table, &vals, row.of.info.keys) {
             Slot::Hit(_) => Got {
                 made: false,
                 state: s,
@@ -136,7 +136,7 @@ fn take<'a>(
 {
     if going {
         let vals = key.vals;
-        let row = predicted::row_of(words, log, row_index, index, ask.row.of, &vals);
+        let row = predicted_index::row_of(words, log, row_index, index, ask.row.of, &vals);
         let i = lane.0;
         out[i] = words::word(row, words::size(ask.col.0));
     }

@@ -26,14 +26,14 @@ use Rattle.instr.specs.Meaning.{instrOf}
 use Rattle.instr.specs.InstrLaws.{instr-at}
 use Rattle.rules.specs.declared.Checking.{Checking}
 use Rattle.rules.specs.declared.Checking.the-variants.{Pass, Size, Unbound, HeldOut, Column}
-use Rattle.bound.specs.declared.Bound.{Bound}
+use Rattle.bound_vars.specs.declared.Bound.{Bound}
 use Rattle.rules.specs.Rules.{refusalOf, isRefusal, placedAt}
-use Rattle.bound.specs.Bound.{has, firstBound, binding}
+use Rattle.bound_vars.specs.Bound.{has, firstBound, binding}
 use Rattle.model.specs.Laws.Book.{Readable}
 use Rattle.instr.specs.Stands.{Stands, bindsOf}
 use Rattle.model.specs.Laws.Kinds.{rule-read}
 use Rattle.instr.specs.StandsLaws.{stands}
-use Rattle.bound.specs.BoundLaws.{has-first, has-binding}
+use Rattle.bound_vars.specs.BoundLaws.{has-first, has-binding}
 use Rattle.instr.specs.StandsLaws.{binds, binds-variable}
 
 -- ## What an answer says

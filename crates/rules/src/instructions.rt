@@ -7,13 +7,13 @@ ghost use Rattle.model.specs.Check as check;
 ghost use Rattle.model.specs.Machine.Functions as functions;
 ghost use Rattle.instr.specs.Meaning.{instrOf};
 ghost use Rattle.rules.specs.Rules.{refusalOf, placedAt};
-ghost use Rattle.bound.specs.Bound.{has, binding};
+ghost use Rattle.bound_vars.specs.Bound.{has, binding};
 ghost use Rattle.model.specs.Laws.Book.{Readable};
 ghost use Rattle.instr.specs.Stands.{Stands, bindsOf, IsVariable};
 use crate::Checking;
 use crate::lists;
 use crate::shapes;
-use bound::Bound;
+use bound_vars::Bound;
 use instr::Instr;
 
 // Refusal 8 is not drawn: its lists are as long as its table and functions ask.

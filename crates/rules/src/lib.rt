@@ -14,7 +14,7 @@ mod instructions;
 mod lists;
 mod shapes;
 
-use bound::Bound;
+use bound_vars::Bound;
 use reader::Reading;
 
 // What an instruction, a rule or all rules come to: they pass, or the instruction whose opcode stands at a place is refused.

@@ -10,7 +10,7 @@ use Rattle.execution.specs.declared.ExecutionState.{ExecutionState}
 use Rattle.execution.specs.Execution.{isGoing}
 use Rattle.predict.specs.Predict.{Gotten}
 use Rattle.action.specs.Run.{Running}
-use Rattle.steps.specs.Steps.{ranBatch, askedRow, rowAnswered}
+use Rattle.step.specs.Steps.{ranBatch, askedRow, rowAnswered}
 use Rattle.step_bodies.specs.Steps.{placed, batchWords, predictionWords}
 use Rattle.run.specs.declared.Progress.{Progress}
 

@@ -13,16 +13,16 @@ use Rattle.model.specs.Laws.Iter.{iter-keeps}
 use Rattle.model.specs.Laws.Kinds.{table-read, step-kind}
 use Rattle.model.specs.Laws.Logic.{either, when-ind}
 use Rattle.model.specs.Machine.Steps.{anyLive}
-use Rattle.predicted.specs.Home.{homeOf}
-use Rattle.predicted.specs.RowLaws.{row-short}
+use Rattle.predicted_index.specs.Home.{homeOf}
+use Rattle.predicted_index.specs.RowLaws.{row-short}
 use Rattle.instr.specs.Instr.{instrAt}
 use Rattle.execution.specs.declared.ExecutionState.{ExecutionState}
 use Rattle.execution.specs.Execution.{isGoing}
 use Rattle.predict.specs.Predict.{Gotten}
 use Rattle.action.specs.Run as action
 use Rattle.action.specs.Run.{Running, ranInstr, ranInstrs}
-use Rattle.steps.specs.Steps.{IsStep, laneCount, startBatch, ruleOf, ranBatch, rowAsked, keyAsked, rowAnswered}
-use Rattle.steps.specs.StepsLaws.{lane-count-most, batch-facts, prediction-facts}
+use Rattle.step.specs.Steps.{IsStep, laneCount, startBatch, ruleOf, ranBatch, rowAsked, keyAsked, rowAnswered}
+use Rattle.step.specs.StepsLaws.{lane-count-most, batch-facts, prediction-facts}
 use Rattle.step_bodies.specs.Steps.{placed}
 use Rattle.run.specs.declared.Progress.{Progress}
 use Rattle.run.specs.Progress.{Ran, halted, told, bodyOf, batchTold, rowBody, rowTold, batchStep, predictionStep, ranNext}

@@ -7,7 +7,7 @@ ghost use Rattle.model.specs.Book.Contents.{firstOf, firstRule, firstStep, kind
 ghost use Rattle.model.specs.Laws.Book.{Readable};
 ghost use Rattle.hash_index.specs.Book.{rowsBefore, BookIndex};
 ghost use Rattle.predict.specs.Predict.{Ready};
-ghost use Rattle.steps.specs.Steps.{IsStep};
+ghost use Rattle.step.specs.Steps.{IsStep};
 ghost use Rattle.run.specs.Progress.{Early, advanced, halted, batchStep, predictionStep, ranNext, ranSteps, asRan};
 
 // What the run keeps, how many steps have answered, how many words their bodies have in all, and each.
@@ -69,7 +69,7 @@ fn batch_step(
     ensures fits { λ r. ⌜ (r .state .used ≤ length (now (log .entry))) × (r .done ≤ p .done + 1) × (r .at ≤ p .at + 8483) ⌝ }
 {
     let before = p.state;
-    let batch = steps::run_batch(words, row_index, base, i, before, bindings, log, index);
+    let batch = step::run_batch(words, row_index, base, i, before, bindings, log, index);
     let state = batch.state;
     if state.going() {
         let end = step_bodies::write_batch(bindings, batch.bindings, batch.mask, p.at, answer);
@@ -97,10 +97,10 @@ fn prediction_step(
     ensures fits { λ r. ⌜ (r .state .used ≤ length (now (log .entry))) × (r .done ≤ p .done + 1) × (r .at ≤ p .at + 8483) ⌝ }
 {
     let before = p.state;
-    let got = steps::run_prediction(words, row_index, i, before, bindings, log, index);
+    let got = step::run_prediction(words, row_index, i, before, bindings, log, index);
     let after = got.state;
     if after.going() {
-        let row = steps::row_answered(words, log, row_index, index, i);
+        let row = step::row_answered(words, log, row_index, index, i);
         let end = step_bodies::write_prediction(row, got.made, p.at, answer);
         return advance(p, after, end);
     }

@@ -18,8 +18,8 @@ use Rattle.model.specs.Laws.Logic.{some-inj}
 use Rattle.model.specs.Laws.Turns.{when-T, when-F}
 use Rattle.mask.specs.Masks.{padded}
 use Rattle.mask.specs.MaskLaws.{any-padded}
-use Rattle.bound.specs.Bound.{has}
-use Rattle.bound.specs.BoundLaws.{length-binding, has-binding}
+use Rattle.bound_vars.specs.Bound.{has}
+use Rattle.bound_vars.specs.BoundLaws.{length-binding, has-binding}
 use Rattle.bindings.specs.Columns.{columnsOf, bound}
 use Rattle.bindings.specs.BindingLaws.{bind-is}
 use Rattle.instr.specs.declared.Instr.{Instr}

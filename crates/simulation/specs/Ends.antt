@@ -27,9 +27,9 @@ use Rattle.model.specs.Safety.BookClaims.{demand3, own-steps}
 use Rattle.counter.specs.CounterLaws.{padded}
 use Rattle.log.specs.Log.{logOf}
 use Rattle.log.specs.LogLaws.{no-records, used-words}
-use Rattle.predicted.specs.Home.{homeOf}
-use Rattle.predicted.specs.HomeLaws.{home-below}
-use Rattle.predicted.specs.RightLaws.{none-ok}
+use Rattle.predicted_index.specs.Home.{homeOf}
+use Rattle.predicted_index.specs.HomeLaws.{home-below}
+use Rattle.predicted_index.specs.RightLaws.{none-ok}
 use Rattle.commit.specs.Commit.{Left, committedRows}
 use Rattle.log.specs.RecordLaws.{recordsOf}
 use Rattle.commit.specs.CommitLaws.{over-is}

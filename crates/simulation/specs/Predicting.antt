@@ -24,16 +24,16 @@ use Rattle.ids.specs.declared.TableId.{TableId}
 use Rattle.tables.specs.Tables.{infoOf, Stands, front}
 use Rattle.log.specs.declared.Appended.the-variants.{Used, Full as NoRoom}
 use Rattle.log.specs.Log.{logOf}
-use Rattle.predicted.specs.declared.Slot.{Slot}
-use Rattle.predicted.specs.declared.Slot.the-variants.{Hit, Free, Full as NoSlot}
-use Rattle.predicted.specs.Home.{homeOf}
-use Rattle.predicted.specs.Index.{slotOf}
-use Rattle.predicted.specs.Right.{IndexOk}
-use Rattle.predicted.specs.Row.{soughtIn, rowOf, rowAmong}
-use Rattle.predicted.specs.RecordLaws.{rows-more}
-use Rattle.predicted.specs.HomeLaws.{home-below}
-use Rattle.predicted.specs.RightLaws.{get-hit, get-free, get-room, insert-ok}
-use Rattle.predicted.specs.RowLaws.{row-is}
+use Rattle.predicted_index.specs.declared.Slot.{Slot}
+use Rattle.predicted_index.specs.declared.Slot.the-variants.{Hit, Free, Full as NoSlot}
+use Rattle.predicted_index.specs.Home.{homeOf}
+use Rattle.predicted_index.specs.Index.{slotOf}
+use Rattle.predicted_index.specs.Right.{IndexOk}
+use Rattle.predicted_index.specs.Row.{soughtIn, rowOf, rowAmong}
+use Rattle.predicted_index.specs.RecordLaws.{rows-more}
+use Rattle.predicted_index.specs.HomeLaws.{home-below}
+use Rattle.predicted_index.specs.RightLaws.{get-hit, get-free, get-room, insert-ok}
+use Rattle.predicted_index.specs.RowLaws.{row-is}
 use Rattle.instr.specs.declared.Entries.{Entries}
 use Rattle.instr.specs.Instr.{writeAt}
 use Rattle.instr.specs.Meaning.{writesOf}

@@ -26,8 +26,8 @@ use Rattle.args.specs.Args.{asList}
 use Rattle.counter.specs.CounterLaws.{padded}
 use Rattle.tables.specs.Tables.{front}
 use Rattle.log.specs.Log.{logOf}
-use Rattle.predicted.specs.Home.{homeOf}
-use Rattle.predicted.specs.Right.{IndexOk}
+use Rattle.predicted_index.specs.Home.{homeOf}
+use Rattle.predicted_index.specs.Right.{IndexOk}
 use Rattle.bindings.specs.Columns.{columnsOf, fetched, valueAt}
 use Rattle.bindings.specs.BindingLaws.{Named, fetch-is}
 use Rattle.instr.specs.declared.Entries.{Entries}

@@ -31,8 +31,8 @@ use Rattle.execution.specs.declared.ExecutionState.{ExecutionState}
 use Rattle.execution.specs.Execution.{goesOn, isGoing as codeGoes}
 use Rattle.predict.specs.Predict.{Gotten}
 use Rattle.action.specs.Run.{Running}
-use Rattle.steps.specs.Steps.{IsStep, ranBatch, askedRow}
-use Rattle.steps.specs.StepsLaws.{batch-facts, columns-within, prediction-facts, writes-within}
+use Rattle.step.specs.Steps.{IsStep, ranBatch, askedRow}
+use Rattle.step.specs.StepsLaws.{batch-facts, columns-within, prediction-facts, writes-within}
 use Rattle.answer.specs.Layout.{stepKind}
 use Rattle.answer.specs.AnswerLaws.{stepWords}
 use Rattle.step_bodies.specs.Steps.{placed, batchWords}

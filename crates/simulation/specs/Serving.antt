@@ -27,10 +27,10 @@ use Rattle.tables.specs.declared.Found.{Found}
 use Rattle.tables.specs.declared.Found.the-variants.{At, Nothing}
 use Rattle.tables.specs.Tables.{infoOf, front, foundRow}
 use Rattle.tables.specs.TablesLaws.{rowFound, find-model, found-within}
-use Rattle.predicted.specs.Home.{homeOf}
-use Rattle.predicted.specs.Index.{slotOf, probed}
-use Rattle.predicted.specs.Row.{soughtIn, committedPart, rowOf}
-use Rattle.predicted.specs.RecordLaws.{at-here}
+use Rattle.predicted_index.specs.Home.{homeOf}
+use Rattle.predicted_index.specs.Index.{slotOf, probed}
+use Rattle.predicted_index.specs.Row.{soughtIn, committedPart, rowOf}
+use Rattle.predicted_index.specs.RecordLaws.{at-here}
 use Rattle.bindings.specs.Columns.{columnsOf}
 use Rattle.bindings.specs.BindingLaws.{Named, word-is, held-value, held-values}
 use Rattle.instr.specs.declared.Entries.{Entries}

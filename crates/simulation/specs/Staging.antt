@@ -24,9 +24,9 @@ use Rattle.args.specs.declared.Args.{Args}
 use Rattle.log.specs.declared.Appended.the-variants.{Used, Full as NoRoom}
 use Rattle.log.specs.Log.{recordOf, logOf, appended, stored}
 use Rattle.log.specs.LogLaws.{append-answer, append-log}
-use Rattle.predicted.specs.Home.{homeOf}
-use Rattle.predicted.specs.HomeLaws.{home-below}
-use Rattle.predicted.specs.RightLaws.{other-ok}
+use Rattle.predicted_index.specs.Home.{homeOf}
+use Rattle.predicted_index.specs.HomeLaws.{home-below}
+use Rattle.predicted_index.specs.RightLaws.{other-ok}
 use Rattle.mask.specs.Masks.{padded}
 use Rattle.mask.specs.MaskLaws.{has-padded}
 use Rattle.bindings.specs.Columns.{columnsOf, wordOf}

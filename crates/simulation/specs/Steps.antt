@@ -28,7 +28,7 @@ use Rattle.model.specs.Laws.Kinds.{rule-read}
 use Rattle.tables.specs.TablesLaws.{row-within, rowFound, keys-is, find-model}
 use Rattle.mask.specs.Masks.{padded, firstLanes}
 use Rattle.mask.specs.MaskLaws.{first-padded}
-use Rattle.bound.specs.BoundLaws.{has-first, length-first}
+use Rattle.bound_vars.specs.BoundLaws.{has-first, length-first}
 use Rattle.bindings.specs.BindingLaws.{load-is}
 use Rattle.instr.specs.Instr as code
 use Rattle.instr.specs.Instr.{writeAt}
@@ -39,8 +39,8 @@ use Rattle.args.specs.Args.{wordsAt}
 use Rattle.args.specs.ArgsLaws.{words-list, words-count, words-length}
 use Rattle.predict.specs.Predict as flat
 use Rattle.predict.specs.Predict.{Held, Gotten, noted, byRow}
-use Rattle.predicted.specs.Row.{rowOf}
-use Rattle.predicted.specs.RecordLaws.{at-past}
+use Rattle.predicted_index.specs.Row.{rowOf}
+use Rattle.predicted_index.specs.RecordLaws.{at-past}
 use Rattle.tables.specs.Tables as tables
 use Rattle.tables.specs.declared.Found.{Found}
 use Rattle.tables.specs.declared.Found.the-variants.{At as Committed, Nothing}
@@ -50,8 +50,8 @@ use Rattle.rules.specs.StepLaws.{batch-test, prediction-test}
 use Rattle.execution.specs.declared.Stop.the-variants.{Going}
 use Rattle.execution.specs.declared.ExecutionState.{ExecutionState}
 use Rattle.action.specs.Run.{Running}
-use Rattle.steps.specs.Steps.{laneCount, startBatch, ruleOf, ranBatch, rowAsked, askedRow, rowAnswered}
-use Rattle.steps.specs.StepsLaws.{lane-count-more, lane-count-most}
+use Rattle.step.specs.Steps.{laneCount, startBatch, ruleOf, ranBatch, rowAsked, askedRow, rowAnswered}
+use Rattle.step.specs.StepsLaws.{lane-count-more, lane-count-most}
 use Rattle.simulation.specs.Represents.{machine, LogIs, ListIs, key-front, Follows, sticks, stops, goes, not-going}
 use Rattle.simulation.specs.Building.{Writable, ReadsAs}
 use Rattle.simulation.specs.Predicting.{TableOk, HasRow, got-read, got-ind}

@@ -28,9 +28,9 @@ use Rattle.bindings.specs.Columns.{columnsOf, wordOf, fetched, valueAt}
 use Rattle.bindings.specs.BindingLaws.{Named, word-is, fetch-is}
 use Rattle.tables.specs.Tables.{front}
 use Rattle.tables.specs.TablesLaws.{front-take}
-use Rattle.predicted.specs.Home.{homeOf}
-use Rattle.predicted.specs.Row.{soughtIn}
-use Rattle.predicted.specs.RowLaws.{row-committed}
+use Rattle.predicted_index.specs.Home.{homeOf}
+use Rattle.predicted_index.specs.Row.{soughtIn}
+use Rattle.predicted_index.specs.RowLaws.{row-committed}
 use Rattle.ids.specs.declared.TableId.{TableId}
 use Rattle.ids.specs.declared.ColumnId.{ColumnId}
 use Rattle.ids.specs.declared.ExternalFunctionId.{ExternalFunctionId}

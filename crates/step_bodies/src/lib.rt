@@ -11,7 +11,7 @@ ghost use Rattle.step_bodies.specs.Steps.{placed, columnWords, columnsWo
 pub mod put;
 
 use bindings::Bindings;
-use bound::Bound;
+use bound_vars::Bound;
 use ids::Variable;
 use mask::Mask;
 

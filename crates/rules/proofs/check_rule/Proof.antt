@@ -10,10 +10,10 @@ use Rattle.model.specs.Outcome.{ruleFirst}
 use Rattle.instr.specs.Instr.{instrAt}
 use Rattle.model.specs.Laws.Book.{rule-entry}
 use Rattle.instr.specs.StandsLaws.{binds-variable}
-use Rattle.bound.specs.BoundLaws.{length-first, length-binding}
+use Rattle.bound_vars.specs.BoundLaws.{length-first, length-binding}
 use Rattle.rules.specs.RuleLaws.{At, many, ruleOf, placeOf, Passed, bound-start, small-here, stands-here, next-here, bound-here, rule-on, rule-stop, rule-end}
 use Rattle.instr.specs.Stands.{bindsOf}
-use Rattle.bound.specs.Bound.{has}
+use Rattle.bound_vars.specs.Bound.{has}
 use borrow.Author.Needs.{needs}
 use Rattle.rules.proofs.check_rule.Statement.{statement}
 use Rattle.rules.proofs.check_rule.Tie as tie
@@ -23,7 +23,7 @@ use Rattle.contents.proofs.first_of.Reads as first-of-reads
 use Rattle.instr.proofs.instr_at.Reads as instr-at-reads
 use Rattle.instr.proofs.next.Reads as next-reads
 use Rattle.rules.proofs.Checking.is_refusal.Reads as is-refusal-reads
-use Rattle.bound.proofs.Bound.first.Reads as first-reads
+use Rattle.bound_vars.proofs.Bound.first.Reads as first-reads
 use Rattle.rules.proofs.instructions.bind_dst.Reads as bind-dst-reads
 use Rattle.rules.proofs.instructions.check_instr.Reads as check-instr-reads
 use Rattle.words.proofs.size.Reads as size-reads

@@ -5,7 +5,7 @@ use native.Mathlib.Omega.{arith}
 use denote.Ref.{now}
 use Rattle.model.specs.Book.Contents.{firstStep, stepCount}
 use Rattle.model.specs.Laws.Book.{step-entry}
-use Rattle.steps.specs.Steps.{IsStep}
+use Rattle.step.specs.Steps.{IsStep}
 use Rattle.run.specs.Progress.{Ran}
 use Rattle.run.specs.ProgressLaws.{not-batch, next-batch, next-prediction, next-stopped}
 use borrow.Author.Needs.{needs}

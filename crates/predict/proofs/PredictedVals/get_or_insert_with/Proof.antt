@@ -1,7 +1,7 @@
 use mathlib.Core.Path.{sym, _∙_}
-use Rattle.predicted.specs.Home.{homeOf}
-use Rattle.predicted.specs.HomeLaws.{home-below}
-use Rattle.predicted.specs.RightLaws.{get-below}
+use Rattle.predicted_index.specs.Home.{homeOf}
+use Rattle.predicted_index.specs.HomeLaws.{home-below}
+use Rattle.predicted_index.specs.RightLaws.{get-below}
 use Rattle.predict.specs.Predict.{gotten}
 use borrow.Author.Needs.{needs}
 use Rattle.predict.proofs.PredictedVals.get_or_insert_with.Statement.{statement}

@@ -3,7 +3,7 @@ use mathlib.Core.Path.{refl, _∙_}
 use denote.Ref.{now}
 use Rattle.model.specs.Check.{readsOf, known?}
 use Rattle.instr.specs.Meaning.{instrOf}
-use Rattle.bound.specs.Bound.{has}
+use Rattle.bound_vars.specs.Bound.{has}
 use Rattle.rules.specs.TestLaws.{all-append, writes-as-entries}
 use borrow.Author.Needs.{needs}
 use Rattle.rules.proofs.instructions.reads_known.Statement.{statement}

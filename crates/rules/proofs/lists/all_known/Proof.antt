@@ -9,7 +9,7 @@ use Rattle.model.specs.Book.Decode as decode
 use Rattle.model.specs.Check.{known?}
 use Rattle.instr.specs.InstrLaws.{entry-at}
 use Rattle.instr.specs.Meaning.{entryOf}
-use Rattle.bound.specs.Bound.{has}
+use Rattle.bound_vars.specs.Bound.{has}
 use Rattle.rules.specs.TestLaws.{entries-no, entries-yes}
 use borrow.Author.Needs.{needs}
 use Rattle.rules.proofs.lists.all_known.Statement.{statement}
