@@ -16,7 +16,7 @@ use Rattle.rules.specs.declared.Verdict.{Verdict}
 use Rattle.rules.specs.declared.Verdict.the-variants.{Pass}
 use Rattle.rules.specs.declared.Verdict.the-variants as verdict
 use Rattle.rules.specs.Rules.{verdictOf}
-use Rattle.book.specs.BookLaws.{book-on}
+use Rattle.admit.specs.BookLaws.{book-on}
 use Rattle.run.specs.declared.Progress.{Progress}
 use Rattle.run.specs.Progress.{Ran, ranSteps}
 use Rattle.simulation.specs.Ends.{startProgress}

@@ -21,7 +21,7 @@ use Rattle.model.specs.Outcome.{Lent, accepted, refused, lentRefusal, wordsRefu
 use Rattle.model.specs.Laws.Logic.{else-none}
 use Rattle.model.specs.Laws.Book.{Readable, few-steps}
 use Rattle.model.specs.Safety.BookClaims.{noContents, noBodies, noSteps}
-use Rattle.book.specs.BookLaws.{words-some, words-most, book-on}
+use Rattle.admit.specs.BookLaws.{words-some, words-most, book-on}
 use Rattle.execution.specs.declared.Stop.the-variants.{Going}
 use Rattle.execution.specs.Execution.{goesOn}
 use Rattle.run.specs.Progress.{Ran, ranSteps}

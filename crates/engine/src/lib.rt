@@ -109,7 +109,7 @@ fn decide_words(
         (lentOf (now (bindings .entry)) (now (index .entry)) (now (log .entry)) (now (tables .entry))
         (now (answer .entry))) (now (book .entry)) r (now (answer .exit)) ⌝ }
 {
-    let n = book::load_words(book, words);
+    let n = admit::load_words(book, words);
     match rules::first_refusal(&words[..n]) {
         Verdict::Pass => run_book(&words[..n], bindings, index, log, tables, answer),
         Verdict::Refused(number, place) => Outcome::Refused(number, place),
@@ -165,7 +165,7 @@ fn decide(
     if !lengths_fit(bindings.len(), index.len(), log.len(), tables.len()) {
         return Outcome::Refused(14, 0);
     }
-    match book::length_refusal(book) {
+    match admit::length_refusal(book) {
         Verdict::Pass => decide_book(book, bindings, index, log, tables, answer),
         Verdict::Refused(number, place) => Outcome::Refused(number, place),
     }

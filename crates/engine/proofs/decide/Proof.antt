@@ -3,7 +3,7 @@ use borrow.Author.Tests.{not-true, not-false}
 use mathlib.Core.Path.{sym, ap, _∙_}
 use denote.Ref.{now}
 use Rattle.rules.specs.Rules.{verdictOf}
-use Rattle.book.specs.BookLaws.{book-stop}
+use Rattle.admit.specs.BookLaws.{book-stop}
 use Rattle.engine.specs.Engine.{lentOf}
 use Rattle.engine.specs.EngineLaws.{decided-14, decided-book}
 use Rattle.engine.specs.CodeLaws.{true-fit, zeros-as}

@@ -4,7 +4,7 @@ use denote.Ref.{now}
 use lib.ListN.{length, replicate, length-replicate}
 use Rattle.model.specs.Book.Words.{wordsOf}
 use Rattle.model.specs.Laws.Words.{length-words}
-use Rattle.book.specs.BookLaws.{words-most}
+use Rattle.admit.specs.BookLaws.{words-most}
 use borrow.Author.Needs.{needs}
 use Rattle.engine.proofs.decide_book.Statement.{statement}
 use Rattle.engine.proofs.decide_book.Tie as tie

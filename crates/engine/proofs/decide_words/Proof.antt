@@ -3,7 +3,7 @@ use mathlib.Core.Path.{sym, ap, _∙_}
 use native.Mathlib.Omega.{arith}
 use denote.Ref.{now}
 use lib.ListN.{length, length-replicate}
-use Rattle.book.specs.BookLaws.{words-some, words-most, front-within, front-is, front-count}
+use Rattle.admit.specs.BookLaws.{words-some, words-most, front-within, front-is, front-count}
 use Rattle.engine.specs.Engine.{lentOf}
 use Rattle.engine.specs.CodeLaws.{fit-true, front-runnable, front-decided, front-refused}
 use borrow.Author.Needs.{needs}

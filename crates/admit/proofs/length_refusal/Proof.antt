@@ -1,9 +1,9 @@
 use mathlib.Core.Path.{sym}
 use native.Mathlib.Omega.{arith}
 use denote.Ref.{now}
-use Rattle.book.specs.BookLaws.{bytes-fit, bytes-fail}
-use Rattle.book.proofs.length_refusal.Statement.{statement}
-use Rattle.book.proofs.length_refusal.Tie as tie
+use Rattle.admit.specs.BookLaws.{bytes-fit, bytes-fail}
+use Rattle.admit.proofs.length_refusal.Statement.{statement}
+use Rattle.admit.proofs.length_refusal.Tie as tie
 
 returns : tie.Need-returns
 returns c = sym (bytes-fail (now (c .before .args .book)) (λ h. omega (arith, h .0, h .1, h .2, c .if1 .taken)))

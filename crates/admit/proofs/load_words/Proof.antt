@@ -1,4 +1,4 @@
-use Rattle.book.specs.BookLaws.{words-loaded}
+use Rattle.admit.specs.BookLaws.{words-loaded}
 use Rattle.words.specs.Filled.{part-fits}
 use Rattle.model.specs.Laws.Words.{length-words}
 use denote.Ref.{now}
@@ -8,8 +8,8 @@ use native.Mathlib.Omega.{arith}
 use Prim.Native.Nat.{_/_}
 use mathlib.Core.Path.{sym}
 use borrow.Author.Needs.{needs}
-use Rattle.book.proofs.load_words.Statement.{statement}
-use Rattle.book.proofs.load_words.Tie as tie
+use Rattle.admit.proofs.load_words.Statement.{statement}
+use Rattle.admit.proofs.load_words.Tie as tie
 
 slice-relend-prefix-load : tie.Need-slice-relend-prefix-load
 slice-relend-prefix-load c = omega (arith, length-words (now (c .before .before .args .book)), c .before .before .pre)
