@@ -17,5 +17,5 @@ table-stands w h t l =
     let r = table-read w (h .contents) (h .bodies) t l in
     stands w (firstOf w t) (sizes w) (endOf w t) (r .1) (r .0 .within)
 
-pub searchable : (w rowIndex : List ℕ) → Readable w → BookIndex w (tableCount w) rowIndex → (t : TableId) → t .0 < tableCount w → Searchable w rowIndex (soughtIn w t)
-searchable w rowIndex h b t l = record { stands = table-stands w h (t .0) l; indexed = book-has w (tableCount w) rowIndex b (t .0) l }
+pub searchable : (w chains : List ℕ) → Readable w → BookIndex w (tableCount w) chains → (t : TableId) → t .0 < tableCount w → Searchable w chains (soughtIn w t)
+searchable w chains h b t l = record { stands = table-stands w h (t .0) l; indexed = book-has w (tableCount w) chains b (t .0) l }

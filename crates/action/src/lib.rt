@@ -1,4 +1,4 @@
-// The interpreter: the instructions of a rule act on the lanes of a batch, one after the other. An index of the book's rows is lent as `row_index`, or an empty one for none.
+// The interpreter: the instructions of a rule act on the lanes of a batch, one after the other. An index of the book's rows is lent as `chains`, or an empty one for none.
 mod lookup;
 
 use bindings::Bindings;
@@ -39,7 +39,7 @@ pub struct Acted {
 // The lanes' part of an instruction; its dst is left in `out`.
 fn act(
     words: &[u32],
-    row_index: &[u32],
+    chains: &[u32],
     bindings: &[u32],
     i: Instr,
     mask: Mask,
@@ -48,7 +48,7 @@ fn act(
     index: &mut [u32],
     out: &mut [u32],
 ) -> Acted
-    requires { ⌜ Readable (now words) × BookIndex (now words) (tableCount (now words)) (now row_index) × Stands (now words) i
+    requires { ⌜ Readable (now words) × BookIndex (now words) (tableCount (now words)) (now chains) × Stands (now words) i
         × Ready state (now log) (now index) × (length (now out) ≡ 256) ⌝ }
     ensures is { λ r. ⌜ asLanes (r .mask .live) (r .state) (now (log .exit)) (now (index .exit)) (now (out .exit))
         ≡ acted (now (words .entry)) (now (bindings .entry)) i
@@ -66,7 +66,7 @@ fn act(
             mask,
             state: lookup::lookup_or_insert_default(
                 words,
-                row_index,
+                chains,
                 bindings,
                 table,
                 args,
@@ -88,7 +88,7 @@ fn act(
         } => Acted {
             mask: lookup::fill_or_else(
                 words,
-                row_index,
+                chains,
                 bindings,
                 lookup::row_ask(words, table, args, dst_col),
                 lanes::entry_ask(default),
@@ -105,7 +105,7 @@ fn act(
         } => {
             let ask = lookup::row_ask(words, table, args, dst_col);
             Acted {
-                mask: lanes::fill(words, row_index, bindings, ask, mask, out),
+                mask: lanes::fill(words, chains, bindings, ask, mask, out),
                 state,
             }
         }
@@ -119,7 +119,7 @@ fn act(
         } => Acted {
             mask: lookup::fill_or_else(
                 words,
-                row_index,
+                chains,
                 bindings,
                 lookup::row_ask(words, table, table_key, dst_col),
                 Ask::External {
@@ -179,7 +179,7 @@ fn act(
         Instr::External { func, args, .. } => Acted {
             mask: lanes::fill(
                 words,
-                row_index,
+                chains,
                 bindings,
                 Ask::External { func, args },
                 mask,
@@ -196,7 +196,7 @@ fn act(
         } => Acted {
             mask: lookup::fill_or_else(
                 words,
-                row_index,
+                chains,
                 bindings,
                 Ask::External {
                     func: f1,
@@ -227,7 +227,7 @@ fn act(
             // Dead lanes too have the counter's next in dst.
             let every = Mask::new(256);
             let next = state.read_counter(counter);
-            lanes::fill(words, row_index, bindings, Ask::Const(next), every, out);
+            lanes::fill(words, chains, bindings, Ask::Const(next), every, out);
             Acted { mask, state }
         }
     }
@@ -248,14 +248,14 @@ fn bind_dst(kept: Bindings, dst: Dst, out: &[u32], bindings: &mut [u32]) -> Bind
 // One instruction: its lanes' part, and its dst bound.
 fn run_instr(
     words: &[u32],
-    row_index: &[u32],
+    chains: &[u32],
     i: Instr,
     batch: Batch,
     bindings: &mut [u32],
     log: &mut [u32],
     index: &mut [u32],
 ) -> Batch
-    requires { ⌜ Readable (now words) × BookIndex (now words) (tableCount (now words)) (now row_index) × Stands (now words) i
+    requires { ⌜ Readable (now words) × BookIndex (now words) (tableCount (now words)) (now chains) × Stands (now words) i
         × Ready (batch .state) (now log) (now index) × (length (now bindings) ≡ 8192) ⌝ }
     ensures is { λ r. ⌜ asRunning r (now (bindings .exit)) (now (log .exit)) (now (index .exit))
         ≡ ranInstr (now (words .entry)) i
@@ -267,7 +267,7 @@ fn run_instr(
     let mut out = [4294967295u32; 256];
     let acted = act(
         words,
-        row_index,
+        chains,
         bindings,
         i,
         mask,
@@ -289,14 +289,14 @@ fn run_instr(
 // The instruction whose opcode stands at p, if a lane is live and the run goes on.
 fn run_next(
     words: &[u32],
-    row_index: &[u32],
+    chains: &[u32],
     p: usize,
     batch: Batch,
     bindings: &mut [u32],
     log: &mut [u32],
     index: &mut [u32],
 ) -> Batch
-    requires { ⌜ Readable (now words) × BookIndex (now words) (tableCount (now words)) (now row_index) × (p ≤ 16384)
+    requires { ⌜ Readable (now words) × BookIndex (now words) (tableCount (now words)) (now chains) × (p ≤ 16384)
         × Stands (now words) (instrAt (now words) p) × Ready (batch .state) (now log) (now index)
         × (length (now bindings) ≡ 8192) ⌝ }
     ensures is { λ r. ⌜ asRunning r (now (bindings .exit)) (now (log .exit)) (now (index .exit))
@@ -309,7 +309,7 @@ fn run_next(
     if state.going() & !mask.is_empty() {
         return run_instr(
             words,
-            row_index,
+            chains,
             instr::instr_at(words, p),
             batch,
             bindings,
@@ -323,7 +323,7 @@ fn run_next(
 // The instructions of rule r, in order. The rules' first entry in the contents is `base`.
 pub fn run_instrs(
     words: &[u32],
-    row_index: &[u32],
+    chains: &[u32],
     base: usize,
     r: usize,
     start: Batch,
@@ -331,7 +331,7 @@ pub fn run_instrs(
     log: &mut [u32],
     index: &mut [u32],
 ) -> Batch
-    requires { ⌜ Readable (now words) × BookIndex (now words) (tableCount (now words)) (now row_index) × (base ≡ firstRule (now words))
+    requires { ⌜ Readable (now words) × BookIndex (now words) (tableCount (now words)) (now chains) × (base ≡ firstRule (now words))
         × (r < ruleCount (now words)) × Ready (start .state) (now log) (now index) × (length (now bindings) ≡ 8192) ⌝ }
     ensures is { λ b. ⌜ asRunning b (now (bindings .exit)) (now (log .exit)) (now (index .exit))
         ≡ ranInstrs (now (words .entry)) (firstOf (now (words .entry)) (base + r))
@@ -345,7 +345,7 @@ pub fn run_instrs(
     let mut p = first + 2;
     let mut j = 0;
     while j < n {
-        batch = run_next(words, row_index, p, batch, bindings, log, index);
+        batch = run_next(words, chains, p, batch, bindings, log, index);
         p = instr::next(words, p);
         j += 1;
     }

@@ -33,28 +33,28 @@ pub fn row_ask(words: &[u32], table: TableId, key: Entries, col: ColumnId) -> As
 // Each lane of the mask asks, and asks otherwise if it is not answered; the lanes that were answered.
 pub fn fill_or_else(
     words: &[u32],
-    row_index: &[u32],
+    chains: &[u32],
     bindings: &[u32],
     ask: Ask,
     other: Ask,
     mask: Mask,
     out: &mut [u32],
 ) -> Mask
-    requires { ⌜ AskFits (now words) (now row_index) ask × AskFits (now words) (now row_index) other × (length (now out) ≡ 256) ⌝ }
+    requires { ⌜ AskFits (now words) (now chains) ask × AskFits (now words) (now chains) other × (length (now out) ≡ 256) ⌝ }
     ensures words { λ r. ⌜ now (out .exit) ≡ eitherWords (now (words .entry)) (now (bindings .entry)) ask other (mask .live)
         (now (out .entry)) ⌝ }
     ensures lanes { λ r. ⌜ r .live ≡ eitherLanes (now (words .entry)) (now (bindings .entry)) ask other (mask .live) ⌝ }
 {
-    let found = lanes::fill(words, row_index, bindings, ask, mask, out);
+    let found = lanes::fill(words, chains, bindings, ask, mask, out);
     let missed = mask.difference(found);
-    let served = lanes::fill(words, row_index, bindings, other, missed, out);
+    let served = lanes::fill(words, chains, bindings, other, missed, out);
     found.union(served)
 }
 
 // A column of the committed row, else of the predicted row, which is made where there is none.
 pub fn lookup_or_insert_default(
     words: &[u32],
-    row_index: &[u32],
+    chains: &[u32],
     bindings: &[u32],
     table: TableId,
     args: Entries,
@@ -66,7 +66,7 @@ pub fn lookup_or_insert_default(
     index: &mut [u32],
     out: &mut [u32],
 ) -> ExecutionState
-    requires { ⌜ Readable (now words) × BookIndex (now words) (tableCount (now words)) (now row_index)
+    requires { ⌜ Readable (now words) × BookIndex (now words) (tableCount (now words)) (now chains)
         × (table .0 < tableCount (now words)) × Short args × Short default × Ready state (now log) (now index)
         × (length (now out) ≡ 256) ⌝ }
     ensures is { λ r. ⌜ asLanes (mask .live) r (now (log .exit)) (now (index .exit)) (now (out .exit))
@@ -76,10 +76,10 @@ pub fn lookup_or_insert_default(
 {
     let of = Sought::of(words, table);
     let ask = Ask::Lookup { of, key: args, col };
-    let found = lanes::fill(words, row_index, bindings, ask, mask, out);
+    let found = lanes::fill(words, chains, bindings, ask, mask, out);
     predict::serve_lanes(
         words,
-        row_index,
+        chains,
         bindings,
         Asking {
             row: Row { of, vals: default },

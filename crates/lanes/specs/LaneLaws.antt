@@ -26,11 +26,11 @@ asked-entry w m (entry.Var v) i = refl
 asked-entry w m (entry.Const x) i = refl
 
 -- it asks for no table
-pub entry-fits : (w rowIndex : List ℕ) (a : Ask) (e : QueryEntry) → a ≡ entryAsk e → AskFits w rowIndex a
+pub entry-fits : (w chains : List ℕ) (a : Ask) (e : QueryEntry) → a ≡ entryAsk e → AskFits w chains a
 unfolding entryAsk
-entry-fits w rowIndex a e q = rw q (by e)
+entry-fits w chains a e q = rw q (by e)
   where
-    by : (e : QueryEntry) → AskFits w rowIndex (entryAsk e)
+    by : (e : QueryEntry) → AskFits w chains (entryAsk e)
     by (entry.Var v) = tt
     by (entry.Const x) = tt
 

@@ -47,10 +47,10 @@ entryAsk (entry.Const x) = Const x
 
 -- what the code may suppose: a table can be searched, by the index of committed rows or without, and a list is short
 abbrev pub AskFits : List ℕ → List ℕ → Ask → Type 0
-AskFits w rowIndex (Lookup of key col) = Searchable w rowIndex of × Short key
-AskFits w rowIndex (External func args) = Short args
-AskFits w rowIndex (Var v) = Unit {0}
-AskFits w rowIndex (Const x) = Unit {0}
+AskFits w chains (Lookup of key col) = Searchable w chains of × Short key
+AskFits w chains (External func args) = Short args
+AskFits w chains (Var v) = Unit {0}
+AskFits w chains (Const x) = Unit {0}
 
 abbrev pub TestFits : Test → Type 0
 TestFits (Eq l r) = Unit {0}

@@ -1,4 +1,4 @@
-// The passes over the lanes of a batch that only read: what each live lane is answered, and which lanes pass a test. An index of the book's rows may be lent as `row_index`; an empty one is none.
+// The passes over the lanes of a batch that only read: what each live lane is answered, and which lanes pass a test. An index of the book's rows may be lent as `chains`; an empty one is none.
 use args::Args;
 use functions::Answer;
 use ids::ColumnId;
@@ -84,8 +84,8 @@ fn column(row: &[u32], col: ColumnId) -> Answer
 }
 
 // What a lane is answered.
-fn answer(words: &[u32], row_index: &[u32], bindings: &[u32], ask: Ask, lane: Lane) -> Answer
-    requires { ⌜ AskFits (now words) (now row_index) ask ⌝ }
+fn answer(words: &[u32], chains: &[u32], bindings: &[u32], ask: Ask, lane: Lane) -> Answer
+    requires { ⌜ AskFits (now words) (now chains) ask ⌝ }
     ensures { λ r. ⌜ answerOf r ≡ asked (now (words .entry)) (now (bindings .entry)) ask (lane .0) ⌝ }
 {
     match ask {
@@ -93,14 +93,7 @@ fn answer(words: &[u32], row_index: &[u32], bindings: &[u32], ask: Ask, lane: La
             let args = fetch(words, bindings, key, lane);
             let vals = args.vals;
             // the log is not looked at
-            let row = predicted_index::row_of(
-                words,
-                &words[..0],
-                row_index,
-                &words[..0],
-                of,
-                &vals,
-            );
+            let row = predicted_index::row_of(words, &words[..0], chains, &words[..0], of, &vals);
             column(row, col)
         }
         Ask::External { func, args } => functions::invoke(func, fetch(words, bindings, args, lane)),
@@ -112,17 +105,17 @@ fn answer(words: &[u32], row_index: &[u32], bindings: &[u32], ask: Ask, lane: La
 // What a lane is answered; a lane that is not live is not asked.
 fn answer_live(
     words: &[u32],
-    row_index: &[u32],
+    chains: &[u32],
     bindings: &[u32],
     ask: Ask,
     live: bool,
     lane: Lane,
 ) -> Answer
-    requires { ⌜ AskFits (now words) (now row_index) ask ⌝ }
+    requires { ⌜ AskFits (now words) (now chains) ask ⌝ }
     ensures { λ r. ⌜ answerOf r ≡ only live (asked (now (words .entry)) (now (bindings .entry)) ask (lane .0)) ⌝ }
 {
     if live {
-        return answer(words, row_index, bindings, ask, lane);
+        return answer(words, chains, bindings, ask, lane);
     }
     Answer::Nothing
 }
@@ -148,13 +141,13 @@ fn word_or(a: Answer, other: u32) -> u32
 // Each lane of the mask that is answered has its word in `out`; the lanes that were.
 pub fn fill(
     words: &[u32],
-    row_index: &[u32],
+    chains: &[u32],
     bindings: &[u32],
     ask: Ask,
     mask: Mask,
     out: &mut [u32],
 ) -> Mask
-    requires { ⌜ AskFits (now words) (now row_index) ask × (length (now out) ≡ 256) ⌝ }
+    requires { ⌜ AskFits (now words) (now chains) ask × (length (now out) ≡ 256) ⌝ }
     ensures lanes { λ r. ⌜ r .live ≡ answeredLanes (asked (now (words .entry)) (now (bindings .entry)) ask) (mask .live) ⌝ }
     ensures words { λ r. ⌜ now (out .exit) ≡ answeredWords (asked (now (words .entry)) (now (bindings .entry)) ask) (mask .live)
         (now (out .entry)) ⌝ }
@@ -163,7 +156,7 @@ pub fn fill(
     let n = mask.end();
     let mut i = 0;
     while i < n {
-        let given = answer_live(words, row_index, bindings, ask, mask.live[i], Lane(i));
+        let given = answer_live(words, chains, bindings, ask, mask.live[i], Lane(i));
         out[i] = word_or(given, out[i]);
         found.live[i] = is_word(given);
         i += 1;

@@ -121,7 +121,7 @@ impl PredictedVals {
 // The lane's word, a column of the row that the key has; none where the run ended.
 fn take<'a>(
     words: &'a [u32],
-    row_index: &[u32],
+    chains: &[u32],
     ask: Asking,
     key: Args,
     lane: Lane,
@@ -130,13 +130,13 @@ fn take<'a>(
     index: &[u32],
     out: &mut [u32],
 )
-    requires { ⌜ Searchable (now words) (now row_index) (ask .row .of) × (lane .0 < length (now out)) ⌝ }
+    requires { ⌜ Searchable (now words) (now chains) (ask .row .of) × (lane .0 < length (now out)) ⌝ }
     ensures { λ _. ⌜ now (out .exit) ≡ takenWord (now (words .entry)) ask (key .vals) (lane .0) going (now (log .entry))
         (now (index .entry)) (now (out .entry)) ⌝ }
 {
     if going {
         let vals = key.vals;
-        let row = predicted_index::row_of(words, log, row_index, index, ask.row.of, &vals);
+        let row = predicted_index::row_of(words, log, chains, index, ask.row.of, &vals);
         let i = lane.0;
         out[i] = words::word(row, words::size(ask.col.0));
     }
@@ -145,7 +145,7 @@ fn take<'a>(
 // A lane that is served has its word in `out`.
 fn serve_lane(
     words: &[u32],
-    row_index: &[u32],
+    chains: &[u32],
     bindings: &[u32],
     ask: Asking,
     live: bool,
@@ -155,7 +155,7 @@ fn serve_lane(
     index: &mut [u32],
     out: &mut [u32],
 ) -> ExecutionState
-    requires { ⌜ Searchable (now words) (now row_index) (ask .row .of) × Short (ask .key) × Short (ask .row .vals)
+    requires { ⌜ Searchable (now words) (now chains) (ask .row .of) × Short (ask .key) × Short (ask .row .vals)
         × Ready s (now log) (now index) × (lane .0 < length (now out)) ⌝ }
     ensures is { λ r. ⌜ asServed r (now (log .exit)) (now (index .exit)) (now (out .exit))
         ≡ servedLane (now (words .entry)) (now (bindings .entry)) ask live (lane .0)
@@ -175,7 +175,7 @@ fn serve_lane(
             index,
         );
         let t = got.state;
-        take(words, row_index, ask, key, lane, t.going(), log, index, out);
+        take(words, chains, ask, key, lane, t.going(), log, index, out);
         return t;
     }
     s
@@ -184,7 +184,7 @@ fn serve_lane(
 // Each lane of the mask is served, ascending, until a counter is spent or the log is full.
 pub fn serve_lanes(
     words: &[u32],
-    row_index: &[u32],
+    chains: &[u32],
     bindings: &[u32],
     ask: Asking,
     mask: Mask,
@@ -193,7 +193,7 @@ pub fn serve_lanes(
     index: &mut [u32],
     out: &mut [u32],
 ) -> ExecutionState
-    requires { ⌜ Searchable (now words) (now row_index) (ask .row .of) × Short (ask .key) × Short (ask .row .vals)
+    requires { ⌜ Searchable (now words) (now chains) (ask .row .of) × Short (ask .key) × Short (ask .row .vals)
         × Ready start (now log) (now index) × (length (now out) ≡ 256) ⌝ }
     ensures is { λ r. ⌜ asServed r (now (log .exit)) (now (index .exit)) (now (out .exit))
         ≡ servedLanes (now (words .entry)) (now (bindings .entry)) ask (mask .live)
@@ -206,7 +206,7 @@ pub fn serve_lanes(
     while i < n {
         s = serve_lane(
             words,
-            row_index,
+            chains,
             bindings,
             ask,
             mask.live[i],
@@ -236,7 +236,7 @@ fn note_change(got: Got) -> Got
 // A key without a committed row has a predicted one afterwards: where it had none before, the row is made, and the changed flag set. An index of the committed rows is lent, or an empty one for none.
 pub fn predict_val(
     words: &[u32],
-    row_index: &[u32],
+    chains: &[u32],
     bindings: &[u32],
     row: Row,
     key: Args,
@@ -244,14 +244,14 @@ pub fn predict_val(
     log: &mut [u32],
     index: &mut [u32],
 ) -> Got
-    requires { ⌜ Searchable (now words) (now row_index) (row .of) × Short (row .vals) × (key .count ≤ 16) × Ready s (now log) (now index) ⌝ }
+    requires { ⌜ Searchable (now words) (now chains) (row .of) × Short (row .vals) × (key .count ≤ 16) × Ready s (now log) (now index) ⌝ }
     ensures is { λ r. ⌜ asGotten r (now (log .exit)) (now (index .exit))
         ≡ answered (now (words .entry)) (now (bindings .entry)) row key
         (asHeld s (now (log .entry)) (now (index .entry))) ⌝ }
     ensures fits { λ r. ⌜ r .state .used ≤ length (now (log .entry)) ⌝ }
 {
     let vals = key.vals;
-    match hash_index::look_up_among(words, row_index, row.of.info, row.of.first, &vals) {
+    match hash_index::look_up_among(words, chains, row.of.info, row.of.first, &vals) {
         Found::At(_) => Got {
             made: false,
             state: s,

@@ -22,9 +22,9 @@ abbrev pub soughtIn : List ℕ → TableId → Sought
 soughtIn w t = record { table = t; info = infoOf w (t .0); first = rowsBefore w (t .0) }
 
 -- what a search may suppose: the table's rows stand in the words, and the index of committed rows has them, or is none
-pub record Searchable (w rowIndex : List ℕ) (of : Sought) : Type 0 where
+pub record Searchable (w chains : List ℕ) (of : Sought) : Type 0 where
   pub stands : Stands w (of .info)
-  pub indexed : IndexAmong w (of .info) (of .first) rowIndex
+  pub indexed : IndexAmong w (of .info) (of .first) chains
 
 -- n words of the record at the place that was hit
 abbrev pub predictedPart : List ℕ → ℕ → Slot → List ℕ

@@ -51,15 +51,15 @@ fn in_log<'a>(log: &'a [u32], index: &[u32], of: Sought, key: &[u32; 16]) -> &'a
 pub fn row_of<'a>(
     words: &'a [u32],
     log: &'a [u32],
-    row_index: &[u32],
+    chains: &[u32],
     index: &[u32],
     of: Sought,
     key: &[u32; 16],
 ) -> &'a [u32]
-    requires { ⌜ Searchable (now words) (now row_index) of ⌝ }
+    requires { ⌜ Searchable (now words) (now chains) of ⌝ }
     ensures { λ r. ⌜ now r ≡ rowOf homeOf (now (words .entry)) (now (log .entry)) (now (index .entry)) of (now (key .entry)) ⌝ }
 {
-    match hash_index::look_up_among(words, row_index, of.info, of.first, key) {
+    match hash_index::look_up_among(words, chains, of.info, of.first, key) {
         Found::At(p) => words::part(words, p, of.info.width),
         Found::Nothing => in_log(log, index, of, key),
     }

@@ -51,7 +51,7 @@ fn halt(p: Progress, state: ExecutionState) -> Progress
 // The batch of entry i, and its body.
 fn batch_step(
     words: &[u32],
-    row_index: &[u32],
+    chains: &[u32],
     base: usize,
     i: usize,
     p: Progress,
@@ -60,7 +60,7 @@ fn batch_step(
     index: &mut [u32],
     answer: &mut [u32],
 ) -> Progress
-    requires { ⌜ Readable (now words) × BookIndex (now words) (tableCount (now words)) (now row_index) × (base ≡ firstRule (now words))
+    requires { ⌜ Readable (now words) × BookIndex (now words) (tableCount (now words)) (now chains) × (base ≡ firstRule (now words))
         × IsStep (now words) i × (kindOf (now words) i ≡ 4) × Early p × Ready (p .state) (now log) (now index)
         × (length (now bindings) ≡ 8192) ⌝ }
     ensures is { λ r. ⌜ asRan r (now (bindings .exit)) (now (log .exit)) (now (index .exit)) (now (answer .exit))
@@ -69,7 +69,7 @@ fn batch_step(
     ensures fits { λ r. ⌜ (r .state .used ≤ length (now (log .entry))) × (r .done ≤ p .done + 1) × (r .at ≤ p .at + 8483) ⌝ }
 {
     let before = p.state;
-    let batch = step::run_batch(words, row_index, base, i, before, bindings, log, index);
+    let batch = step::run_batch(words, chains, base, i, before, bindings, log, index);
     let state = batch.state;
     if state.going() {
         let end = step_bodies::write_batch(bindings, batch.bindings, batch.mask, p.at, answer);
@@ -81,7 +81,7 @@ fn batch_step(
 // The prediction of entry i, and its body.
 fn prediction_step(
     words: &[u32],
-    row_index: &[u32],
+    chains: &[u32],
     i: usize,
     p: Progress,
     bindings: &[u32],
@@ -89,7 +89,7 @@ fn prediction_step(
     index: &mut [u32],
     answer: &mut [u32],
 ) -> Progress
-    requires { ⌜ Readable (now words) × BookIndex (now words) (tableCount (now words)) (now row_index) × IsStep (now words) i
+    requires { ⌜ Readable (now words) × BookIndex (now words) (tableCount (now words)) (now chains) × IsStep (now words) i
         × (kindOf (now words) i ≡ 5) × Early p × Ready (p .state) (now log) (now index) ⌝ }
     ensures is { λ r. ⌜ asRan r (now (bindings .entry)) (now (log .exit)) (now (index .exit)) (now (answer .exit))
         ≡ predictionStep (now (words .entry)) i
@@ -97,10 +97,10 @@ fn prediction_step(
     ensures fits { λ r. ⌜ (r .state .used ≤ length (now (log .entry))) × (r .done ≤ p .done + 1) × (r .at ≤ p .at + 8483) ⌝ }
 {
     let before = p.state;
-    let got = step::run_prediction(words, row_index, i, before, bindings, log, index);
+    let got = step::run_prediction(words, chains, i, before, bindings, log, index);
     let after = got.state;
     if after.going() {
-        let row = step::row_answered(words, log, row_index, index, i);
+        let row = step::row_answered(words, log, chains, index, i);
         let end = step_bodies::write_prediction(row, got.made, p.at, answer);
         return advance(p, after, end);
     }
@@ -110,7 +110,7 @@ fn prediction_step(
 // The next step, if the run goes on. The rules' first entry in the contents is `base`, the steps' first is `first`.
 fn run_next(
     words: &[u32],
-    row_index: &[u32],
+    chains: &[u32],
     base: usize,
     first: usize,
     p: Progress,
@@ -119,7 +119,7 @@ fn run_next(
     index: &mut [u32],
     answer: &mut [u32],
 ) -> Progress
-    requires { ⌜ Readable (now words) × BookIndex (now words) (tableCount (now words)) (now row_index) × (base ≡ firstRule (now words))
+    requires { ⌜ Readable (now words) × BookIndex (now words) (tableCount (now words)) (now chains) × (base ≡ firstRule (now words))
         × (first ≡ firstStep (now words)) × (p .done < stepCount (now words)) × Early p
         × Ready (p .state) (now log) (now index) × (length (now bindings) ≡ 8192) ⌝ }
     ensures is { λ r. ⌜ asRan r (now (bindings .exit)) (now (log .exit)) (now (index .exit)) (now (answer .exit))
@@ -131,9 +131,9 @@ fn run_next(
     if state.going() {
         let i = first + p.done;
         if contents::kind_of(words, i) == 4 {
-            return batch_step(words, row_index, base, i, p, bindings, log, index, answer);
+            return batch_step(words, chains, base, i, p, bindings, log, index, answer);
         }
-        return prediction_step(words, row_index, i, p, bindings, log, index, answer);
+        return prediction_step(words, chains, i, p, bindings, log, index, answer);
     }
     p
 }
@@ -141,7 +141,7 @@ fn run_next(
 // All steps, from a fresh execution state with these counters. An index of the book's rows is lent, or an empty one for none.
 fn run_by(
     words: &[u32],
-    row_index: &[u32],
+    chains: &[u32],
     base: usize,
     first: usize,
     steps: usize,
@@ -151,7 +151,7 @@ fn run_by(
     index: &mut [u32],
     answer: &mut [u32],
 ) -> Progress
-    requires { ⌜ Readable (now words) × BookIndex (now words) (tableCount (now words)) (now row_index) × (base ≡ firstRule (now words))
+    requires { ⌜ Readable (now words) × BookIndex (now words) (tableCount (now words)) (now chains) × (base ≡ firstRule (now words))
         × (first ≡ firstStep (now words)) × (steps ≡ stepCount (now words)) × (start .done ≡ 0) × (start .at ≡ 0)
         × Ready (start .state) (now log) (now index) × (length (now bindings) ≡ 8192) ⌝ }
     ensures is { λ r. ⌜ asRan r (now (bindings .exit)) (now (log .exit)) (now (index .exit)) (now (answer .exit))
@@ -162,17 +162,7 @@ fn run_by(
     let mut p = start;
     let mut k = 0;
     while k < steps {
-        p = run_next(
-            words,
-            row_index,
-            base,
-            first,
-            p,
-            bindings,
-            log,
-            index,
-            answer,
-        );
+        p = run_next(words, chains, base, first, p, bindings, log, index, answer);
         k += 1;
     }
     p
@@ -199,11 +189,11 @@ fn run_indexed(
         (asRan start (now (bindings .entry)) (now (log .entry)) (now (index .entry)) (now (answer .entry))) ⌝ }
     ensures fits { λ r. ⌜ (r .state .used ≤ length (now (log .entry))) × (r .done ≤ 64) × (r .at ≤ 1048576) ⌝ }
 {
-    let mut row_index = [0u32; 18432];
-    hash_index::build_all(words, tables, &mut row_index);
+    let mut chains = [0u32; 18432];
+    hash_index::build_all(words, tables, &mut chains);
     run_by(
         words,
-        &row_index,
+        &chains,
         base,
         first,
         steps,

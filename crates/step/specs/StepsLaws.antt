@@ -55,8 +55,8 @@ module _ {w : List ℕ} (h : Readable w) {i : ℕ} (s : IsStep w i) where
     pub writes-within : at + 2 + getD w (at + 1) 0 + 1 + 2 * getD w (at + 2 + getD w (at + 1) 0) 0 ≤ length w
     writes-within = omega (arith, prediction-facts .fills, body-inside .within)
 
-    pub table-here : {rowIndex : List ℕ} → BookIndex w (tableCount w) rowIndex → Searchable w rowIndex (rowAsked w at .of)
-    table-here {rowIndex} b = searchable w rowIndex h b (record { 0 = getD w at 0 }) (prediction-facts .table)
+    pub table-here : {chains : List ℕ} → BookIndex w (tableCount w) chains → Searchable w chains (rowAsked w at .of)
+    table-here {chains} b = searchable w chains h b (record { 0 = getD w at 0 }) (prediction-facts .table)
 
     pub writes-short : Short (rowAsked w at .vals)
     writes-short = (omega (arith, writes-within, h .most), prediction-facts .vals)

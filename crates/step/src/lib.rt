@@ -1,4 +1,4 @@
-// The two kinds of step: a batch runs its rule, a prediction asks for a row. An index of the book's rows is lent as `row_index`, or an empty one for none.
+// The two kinds of step: a batch runs its rule, a prediction asks for a row. An index of the book's rows is lent as `chains`, or an empty one for none.
 use action::Batch;
 use args::Args;
 use bindings::Bindings;
@@ -29,7 +29,7 @@ fn lane_count(v: u32, lanes: usize) -> usize
 // The batch of entry i: its own columns, all lanes live, and then its rule. The rules' first entry in the contents is `base`.
 pub fn run_batch(
     words: &[u32],
-    row_index: &[u32],
+    chains: &[u32],
     base: usize,
     i: usize,
     state: ExecutionState,
@@ -37,7 +37,7 @@ pub fn run_batch(
     log: &mut [u32],
     index: &mut [u32],
 ) -> Batch
-    requires { ⌜ Readable (now words) × BookIndex (now words) (tableCount (now words)) (now row_index) × (base ≡ firstRule (now words))
+    requires { ⌜ Readable (now words) × BookIndex (now words) (tableCount (now words)) (now chains) × (base ≡ firstRule (now words))
         × IsStep (now words) i × (kindOf (now words) i ≡ 4) × Ready state (now log) (now index)
         × (length (now bindings) ≡ 8192) ⌝ }
     ensures is { λ r. ⌜ asRunning r (now (bindings .exit)) (now (log .exit)) (now (index .exit))
@@ -60,7 +60,7 @@ pub fn run_batch(
         mask: Mask::new(lanes),
         state,
     };
-    action::run_instrs(words, row_index, base, rule, start, bindings, log, index)
+    action::run_instrs(words, chains, base, rule, start, bindings, log, index)
 }
 
 // The key of the prediction of entry i.
@@ -76,14 +76,14 @@ fn key_asked(words: &[u32], i: usize) -> Args
 // The prediction of entry i. Its write values are constants and counters, so what the bindings hold does not matter.
 pub fn run_prediction(
     words: &[u32],
-    row_index: &[u32],
+    chains: &[u32],
     i: usize,
     state: ExecutionState,
     bindings: &[u32],
     log: &mut [u32],
     index: &mut [u32],
 ) -> Got
-    requires { ⌜ Readable (now words) × BookIndex (now words) (tableCount (now words)) (now row_index) × IsStep (now words) i
+    requires { ⌜ Readable (now words) × BookIndex (now words) (tableCount (now words)) (now chains) × IsStep (now words) i
         × (kindOf (now words) i ≡ 5) × Ready state (now log) (now index) ⌝ }
     ensures is { λ r. ⌜ asGotten r (now (log .exit)) (now (index .exit))
         ≡ askedRow (now (words .entry)) (now (bindings .entry)) (firstOf (now (words .entry)) i) state
@@ -98,7 +98,7 @@ pub fn run_prediction(
     };
     predict::predict_val(
         words,
-        row_index,
+        chains,
         bindings,
         row,
         key_asked(words, i),
@@ -112,11 +112,11 @@ pub fn run_prediction(
 pub fn row_answered<'a>(
     words: &'a [u32],
     log: &'a [u32],
-    row_index: &[u32],
+    chains: &[u32],
     index: &[u32],
     i: usize,
 ) -> &'a [u32]
-    requires { ⌜ Readable (now words) × BookIndex (now words) (tableCount (now words)) (now row_index) × IsStep (now words) i
+    requires { ⌜ Readable (now words) × BookIndex (now words) (tableCount (now words)) (now chains) × IsStep (now words) i
         × (kindOf (now words) i ≡ 5) ⌝ }
     ensures { λ r. ⌜ now r ≡ rowAnswered (now (words .entry)) (firstOf (now (words .entry)) i) (now (log .entry)) (now (index .entry)) ⌝ }
 {
@@ -124,5 +124,5 @@ pub fn row_answered<'a>(
     let of = Sought::of(words, TableId(words::word(words, at)));
     let key = key_asked(words, i);
     let vals = key.vals;
-    predicted_index::row_of(words, log, row_index, index, of, &vals)
+    predicted_index::row_of(words, log, chains, index, of, &vals)
 }

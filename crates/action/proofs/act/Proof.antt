@@ -21,22 +21,22 @@ fill-or-else-requires c κs =
     let a = c .before .before .before .before .before .before .before .before .before .before .before .before .args in
     let p = c .before .before .before .before .before .before .before .before .before .before .before .before .pre in
     let s = rw (i2 .given .1) at (p .2) in
-    let e = entry-fits (now (a .words)) (now (a .row-index)) _ _ (c .before .entry-ask .ensures) in
-    rw (c .before .before .row-ask .ensures) ((searchable (now (a .words)) (now (a .row-index)) (p .0) (p .1) _ (s .0), s .1), e, p .4)
+    let e = entry-fits (now (a .words)) (now (a .chains)) _ _ (c .before .entry-ask .ensures) in
+    rw (c .before .before .row-ask .ensures) ((searchable (now (a .words)) (now (a .chains)) (p .0) (p .1) _ (s .0), s .1), e, p .4)
 
 fill-requires : tie.Need-fill-requires
 fill-requires c κs =
     let a = c .before .before .before .before .before .before .before .before .before .before .before .args in
     let p = c .before .before .before .before .before .before .before .before .before .before .before .pre in
     let s = rw (c .before .before .before .i3 .given .1) at (p .2) in
-    rw (c .before .row-ask2 .ensures) ((searchable (now (a .words)) (now (a .row-index)) (p .0) (p .1) _ (s .0), s .1), p .4)
+    rw (c .before .row-ask2 .ensures) ((searchable (now (a .words)) (now (a .chains)) (p .0) (p .1) _ (s .0), s .1), p .4)
 
 fill-or-else-requires-2 : tie.Need-fill-or-else-requires-2
 fill-or-else-requires-2 c κs =
     let a = c .before .before .before .before .before .before .before .before .before .before .before .args in
     let p = c .before .before .before .before .before .before .before .before .before .before .before .pre in
     let s = rw (c .before .before .before .i4 .given .1) at (p .2) in
-    rw (c .before .row-ask3 .ensures) ((searchable (now (a .words)) (now (a .row-index)) (p .0) (p .1) _ (s .0), s .1), s .2, p .4)
+    rw (c .before .row-ask3 .ensures) ((searchable (now (a .words)) (now (a .chains)) (p .0) (p .1) _ (s .0), s .1), s .2, p .4)
 
 stage-lanes-requires : tie.Need-stage-lanes-requires
 stage-lanes-requires c κs =

@@ -21,7 +21,7 @@ here : (w : List ℕ) (r j n p : ℕ) → Readable w → r < ruleCount w → n �
 here w r j n p h l m b e = record { readable = h; rule = l; below = omega (arith, m, b); place = e; is = refl }
 
 abbrev Inv-loop : tie.InvT-loop
-Inv-loop words row-index base r bindings₀ log₀ index₀ first n batch₀ p₀ j₀ bindings log index batch p j =
+Inv-loop words chains base r bindings₀ log₀ index₀ first n batch₀ p₀ j₀ bindings log index batch p j =
     (n ≡ many words r)
     × (j ≤ n)
     × (p ≡ placeOf words r j)
@@ -32,7 +32,7 @@ Inv-loop words row-index base r bindings₀ log₀ index₀ first n batch₀ p�
     × (_≡_ {A = Running} (record { batch = batch; bindings = bindings; log = log; index = index }) (iter (λ k. ranNext words (placeOf words r k)) j (record { batch = batch₀; bindings = bindings₀; log = log₀; index = index₀ })))
 
 abbrev μ-loop : tie.MeasureT-loop
-μ-loop words row-index base r bindings₀ log₀ index₀ first n batch₀ p₀ j₀ bindings log index batch p j = n - j
+μ-loop words chains base r bindings₀ log₀ index₀ first n batch₀ p₀ j₀ bindings log index batch p j = n - j
 
 add-first-of : tie.Need-add-first-of Inv-loop μ-loop
 add-first-of c =

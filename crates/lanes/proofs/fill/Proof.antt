@@ -16,10 +16,10 @@ use Rattle.lanes.proofs.fill.Statement.{statement}
 use Rattle.lanes.proofs.fill.Tie as tie
 
 abbrev Inv-loop : tie.InvT-loop
-Inv-loop words row-index bindings ask out₀ mask found₀ n i₀ out found i = (i ≤ n) × (length out ≡ 256) × (found .live ≡ filled (λ k. isSome (only (getD (mask .live) k false) (asked words bindings ask k))) i (found₀ .live)) × (out ≡ filled (λ k. orElse (only (getD (mask .live) k false) (asked words bindings ask k)) (getD out₀ k 0)) i out₀)
+Inv-loop words chains bindings ask out₀ mask found₀ n i₀ out found i = (i ≤ n) × (length out ≡ 256) × (found .live ≡ filled (λ k. isSome (only (getD (mask .live) k false) (asked words bindings ask k))) i (found₀ .live)) × (out ≡ filled (λ k. orElse (only (getD (mask .live) k false) (asked words bindings ask k)) (getD out₀ k 0)) i out₀)
 
 abbrev μ-loop : tie.MeasureT-loop
-μ-loop words row-index bindings ask out₀ mask found₀ n i₀ out found i = n - i
+μ-loop words chains bindings ask out₀ mask found₀ n i₀ out found i = n - i
 
 loop-holds : tie.Need-loop-holds Inv-loop μ-loop
 loop-holds c = (search needs, search needs, filled-none _ _, filled-none _ _)

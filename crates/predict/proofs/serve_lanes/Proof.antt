@@ -12,7 +12,7 @@ use Rattle.predict.proofs.serve_lanes.Statement.{statement}
 use Rattle.predict.proofs.serve_lanes.Tie as tie
 
 abbrev Inv-loop : tie.InvT-loop
-Inv-loop words row-index bindings ask log₀ index₀ out₀ mask n s₀ i₀ log index out s i =
+Inv-loop words chains bindings ask log₀ index₀ out₀ mask n s₀ i₀ log index out s i =
     (i ≤ n)
     × (length log ≡ length log₀)
     × (length index ≡ length index₀)
@@ -21,7 +21,7 @@ Inv-loop words row-index bindings ask log₀ index₀ out₀ mask n s₀ i₀ lo
     × (_≡_ {A = Served} (record { state = s; log = log; index = index; out = out }) (iter (λ k. servedLane words bindings ask (getD (mask .live) k false) k) i (record { state = s₀; log = log₀; index = index₀; out = out₀ })))
 
 abbrev μ-loop : tie.MeasureT-loop
-μ-loop words row-index bindings ask log₀ index₀ out₀ mask n s₀ i₀ log index out s i = n - i
+μ-loop words chains bindings ask log₀ index₀ out₀ mask n s₀ i₀ log index out s i = n - i
 
 loop-holds : tie.Need-loop-holds Inv-loop μ-loop
 loop-holds c = (search needs, refl, refl, refl, search needs, refl)

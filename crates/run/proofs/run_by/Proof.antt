@@ -13,7 +13,7 @@ use Rattle.run.proofs.run_by.Statement.{statement}
 use Rattle.run.proofs.run_by.Tie as tie
 
 abbrev Inv-loop : tie.InvT-loop
-Inv-loop words row-index base first steps bindings₀ log₀ index₀ answer₀ p₀ k₀ bindings log index answer p k =
+Inv-loop words chains base first steps bindings₀ log₀ index₀ answer₀ p₀ k₀ bindings log index answer p k =
     (k ≤ steps)
     × (length bindings ≡ length bindings₀)
     × (length log ≡ length log₀)
@@ -25,7 +25,7 @@ Inv-loop words row-index base first steps bindings₀ log₀ index₀ answer₀ 
     × (_≡_ {A = Ran} (record { progress = p; bindings = bindings; log = log; index = index; answer = answer }) (iter (λ _. ranNext words) k (record { progress = p₀; bindings = bindings₀; log = log₀; index = index₀; answer = answer₀ })))
 
 abbrev μ-loop : tie.MeasureT-loop
-μ-loop words row-index base first steps bindings₀ log₀ index₀ answer₀ p₀ k₀ bindings log index answer p k = steps - k
+μ-loop words chains base first steps bindings₀ log₀ index₀ answer₀ p₀ k₀ bindings log index answer p k = steps - k
 
 loop-holds : tie.Need-loop-holds Inv-loop μ-loop
 loop-holds c = let q = c .before .before .before .before .before .before .pre in (search needs, refl, refl, refl, refl, q .7 .used, omega (arith, q .5), omega (arith, q .6), refl)

@@ -11,14 +11,14 @@ fill-requires : tie.Need-fill-requires
 fill-requires c κs =
     let a = c .before .before .before .before .before .before .before .before .args in
     let p = c .before .before .before .before .before .before .before .before .pre in
-    rw (c .before .of .ensures) ((searchable (now (a .words)) (now (a .row-index)) (p .0) (p .1) (a .table) (p .2), p .3), p .6)
+    rw (c .before .of .ensures) ((searchable (now (a .words)) (now (a .chains)) (p .0) (p .1) (a .table) (p .2), p .3), p .6)
 
 serve-lanes-requires : tie.Need-serve-lanes-requires
 serve-lanes-requires c κs =
     let fill = c .before .before .before .before .before .before .fill in
     let a = c .before .before .before .before .before .before .before .before .before .before .before .before .before .before .before .args in
     let p = c .before .before .before .before .before .before .before .before .before .before .before .before .before .before .before .pre in
-    (rw (c .before .before .before .before .before .before .before .before .of .ensures) (searchable (now (a .words)) (now (a .row-index)) (p .0) (p .1) (a .table) (p .2)), p .3, p .4, p .5, fill .kept .1 .1 .1 .1 .1 .0 ∙ p .6)
+    (rw (c .before .before .before .before .before .before .before .before .of .ensures) (searchable (now (a .words)) (now (a .chains)) (p .0) (p .1) (a .table) (p .2)), p .3, p .4, p .5, fill .kept .1 .1 .1 .1 .1 .0 ∙ p .6)
 
 returns : tie.Need-returns
 returns c =
