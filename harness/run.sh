@@ -3,12 +3,15 @@
 #
 #   harness/run.sh [--rust FOLDER] [--against engine|plain] [--seed N] [--books N] [--first N] [--jobs N]
 #   harness/run.sh --time | --sample FILE | --replay FILE | --show FILE | --faults   (with the same options)
+#
+# With --archive FOLDER, the libwirumbane.a of that folder is taken, and none is made.
 set -euo pipefail
 here=$(cd "$(dirname "$0")" && pwd)
 top=$(dirname "$here")
 
 rust=$top/../shared/docs/src
 against=engine
+archive=
 task=compare
 hash_flags=
 words=()
@@ -16,6 +19,7 @@ while [ $# -gt 0 ]; do
     case $1 in
         --rust) rust=$2; shift ;;
         --against) against=$2; shift ;;
+        --archive) archive=$2; shift ;;
         --flat-hash) hash_flags="--cfg flat_hash" ;;
         --faults) task=faults ;;
         --time) task=time; words+=("$1") ;;
@@ -23,6 +27,18 @@ while [ $# -gt 0 ]; do
     esac
     shift
 done
+
+# The folder of libwirumbane.a, which is proved and made unless one was given.
+ready_archive() {
+    if [ -n "$archive" ]; then
+        archive=$(cd "$archive" && pwd) || exit 2
+    else
+        (cd "$top" && rt staticlib wirumbane) || exit 2
+        archive=$top/target/staticlib
+    fi
+    [ -e "$archive/libwirumbane.a" ] || { echo "no libwirumbane.a in $archive" >&2; exit 2; }
+}
+
 rust=$(cd "$rust" && pwd) || exit 2
 
 # Runs keep every assertion of the Rust; times are taken without them.
@@ -89,11 +105,10 @@ if [ "$task" = faults ]; then
 fi
 
 if [ "$against" = engine ]; then
-    (cd "$top" && rt staticlib engine) || exit 2
-    archive=$top/target/staticlib
+    ready_archive
     program=$out/with-engine
-    made_from "$program" "${inputs[@]}" "$archive/libengine.a" ||
-        build_program "$here/src" "$program" $flags --cfg engine -L "native=$archive" -l static=engine
+    made_from "$program" "${inputs[@]}" "$archive/libwirumbane.a" ||
+        build_program "$here/src" "$program" $flags --cfg engine -L "native=$archive" -l static=wirumbane
 else
     program=$out/plain
     made_from "$program" "${inputs[@]}" || build_program "$here/src" "$program" $flags

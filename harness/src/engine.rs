@@ -1,5 +1,5 @@
 //! What is compared with the Rust: the proved engine through its C entry point, or the plain model
-//! in its place. The binding of the entry point stands here and nowhere else.
+//! in its place. The harness binds the entry point here and nowhere else.
 use crate::plain::{self, Lent, Refusal};
 
 #[derive(Clone, Copy, Debug, PartialEq, Eq)]
