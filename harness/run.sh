@@ -3,6 +3,7 @@
 #
 #   harness/run.sh [--rust FOLDER] [--against engine|plain] [--seed N] [--books N] [--first N] [--jobs N]
 #   harness/run.sh --time | --sample FILE | --replay FILE | --show FILE | --faults   (with the same options)
+#   harness/run.sh --examples
 #
 # With --archive FOLDER, the libwirumbane.a of that folder is taken, and none is made.
 set -euo pipefail
@@ -22,6 +23,7 @@ while [ $# -gt 0 ]; do
         --archive) archive=$2; shift ;;
         --flat-hash) hash_flags="--cfg flat_hash" ;;
         --faults) task=faults ;;
+        --examples) task=examples ;;
         --time) task=time; words+=("$1") ;;
         *) words+=("$1") ;;
     esac
@@ -38,6 +40,12 @@ ready_archive() {
     fi
     [ -e "$archive/libwirumbane.a" ] || { echo "no libwirumbane.a in $archive" >&2; exit 2; }
 }
+
+if [ "$task" = examples ]; then
+    ready_archive
+    source "$here/examples.sh"
+    exit
+fi
 
 rust=$(cd "$rust" && pwd) || exit 2
 
