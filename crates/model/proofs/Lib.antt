@@ -1,3 +1,4 @@
+-- In order: runs on logs with less and more room, the refusals, the books by computation, then what the trace notes, with the spent counters (`Spent`).
 mod Idle
 mod Room
 mod Follows

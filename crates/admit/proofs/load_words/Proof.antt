@@ -1,3 +1,4 @@
+-- `load` fills a front of as many words as the book has (`length-words`); with the rest as it was, that is the buffer asked for (`words-loaded`).
 use Rattle.admit.specs.BookLaws.{words-loaded}
 use Rattle.words.specs.Filled.{part-fits}
 use Rattle.model.specs.Laws.Words.{length-words}

@@ -1,3 +1,4 @@
+-- After i turns the first i of the 16 are what the first i entries stand for, the rest 0 (`filled-turn`); at the end i is the count.
 use Prim.Native.Nat.{ℕ, _+_, _-_, _*_, _≤_}
 use mathlib.Core.Path.{_≡_, ap}
 use mathlib.Core.List.{List}

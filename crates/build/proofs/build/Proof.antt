@@ -1,3 +1,4 @@
+-- After k turns b is the start with k write values more (`iter-more`); at the end k is the count, and the row has 16 words at most (`built-fits`).
 use Prim.Native.Nat.{_+_, _*_, _-_, _≤_}
 use mathlib.Core.Path.{_≡_, refl}
 use native.Mathlib.Omega.{arith}

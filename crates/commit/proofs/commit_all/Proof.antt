@@ -1,3 +1,4 @@
+-- After t turns the rows and `gone` are those after t tables (`iter-more`), and the used words are within the rows (`table-fits`); at the end t is `tables`.
 use Prim.Native.Nat.{_≤_, _-_}
 use mathlib.Core.Path.{_≡_, refl, sym, ap, _∙_}
 use mathlib.Core.Bool.{false}

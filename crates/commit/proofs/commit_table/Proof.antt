@@ -1,3 +1,4 @@
+-- `keep` leaves `kept` of the rows begun (`old-is`), `insert_rows` leaves `inserted` of that (`all-is`), and the fields that are set make `ended` of it.
 use mathlib.Core.Path.{_≡_, sym, ap, _∙_, subst}
 use native.Mathlib.Omega.{arith}
 use denote.Ref.{now}

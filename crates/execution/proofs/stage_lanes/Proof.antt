@@ -1,3 +1,4 @@
+-- After i turns state and log are those after i lanes (`iter-more`); past the last live lane no turn changes them, so that is all 256 (`live-turns`).
 use Prim.Native.Nat.{_-_, _≤_}
 use mathlib.Core.Path.{_≡_, refl, _∙_}
 use mathlib.Core.Bool.{false}

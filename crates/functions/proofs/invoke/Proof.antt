@@ -1,3 +1,4 @@
+-- By the count, which must be the arity (`other-counts`), then the number: each arm's answer is the model's (`answered`), and above 7 there is none.
 use Prim.Native.Nat.{ℕ}
 use mathlib.Core.Path.{_≡_, _∙_, sym}
 use mathlib.Core.Logic.{_≢_}

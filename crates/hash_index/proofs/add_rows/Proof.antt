@@ -1,3 +1,4 @@
+-- After i turns i rows are added and `at` is the word of row i (`iter-more`); each tail is one of the rows so far, as `add` requires (`tails-more`).
 use Prim.Native.Nat.{ℕ, _+_, _≤_, _-_}
 use mathlib.Core.Path.{_≡_, refl, sym, ap, _∙_}
 use native.Mathlib.Nat.{add-zero}

@@ -1,3 +1,4 @@
+-- No row before the one that p tells has the key (`standing`); if that row has it, it is the first (`first-row`), and where p is 0 none has (`none-left`).
 use mathlib.Core.Path.{sym, ap, _∙_}
 use native.Mathlib.Omega.{arith}
 use denote.Ref.{now}

@@ -1,3 +1,4 @@
+-- By the tests, which are the first two conditions of `isRow`; past them `place` gives a row that stands in the words, and `same_words` is the third.
 use Prim.Native.Nat.{_-_}
 use native.Mathlib.Omega.{arith}
 use borrow.Author.Tests.{le-ltb, lt-ltb, lt-leb, le-leb}

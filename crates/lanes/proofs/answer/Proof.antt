@@ -1,3 +1,4 @@
+-- By what is asked: in each arm the callees' contracts, one put into the other, are the case of `asked`; what they require is that case of `AskFits`.
 use Rattle.lanes.specs.Lanes.{asked}
 use borrow.Author.Needs.{needs}
 use Rattle.lanes.proofs.answer.Statement.{statement}

@@ -1,3 +1,4 @@
+-- The answer is that for both sides without their first k words, which agree (`pair-agrees`); a pair that differs makes it true, no pair left false.
 use native.Mathlib.Omega.{arith}
 use Rattle.lanes.specs.LaneLaws.{pair-differs, pair-agrees, no-more-pairs}
 use Prim.Native.Nat.{_-_, _≤_, min}

@@ -1,3 +1,4 @@
+-- After i turns i marks and words are as asked, the rest as before (`filled-turn`); past the last live lane they are so already (`live-marks`, `live-lanes`).
 use native.Mathlib.Omega.{arith}
 use mathlib.Core.Option.{Option}
 use denote.Ref.{now}

@@ -1,3 +1,4 @@
+-- By the test: in each arm the callees' contracts, one put into the other, are the case of `holds`; a list is short by that case of `TestFits`.
 use Rattle.bindings.specs.Columns.{fetched}
 use Rattle.lanes.specs.Lanes.{holds}
 use borrow.Author.Needs.{needs}

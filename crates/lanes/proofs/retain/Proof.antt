@@ -1,3 +1,4 @@
+-- After i turns i lanes are live if they were and pass, the rest as before (`drop-turn`, `keep-turn`); past the last live one none is live (`live-lanes`).
 use Prim.Native.Nat.{_-_, _≤_, _<_}
 use mathlib.Core.Path.{_≡_, sym, ap, _∙_}
 use mathlib.Core.Logic.{⊎-elim}

@@ -1,3 +1,4 @@
+-- By the test: without room nothing is written (`no-room`); with room the stores of kind, table and row are one store of the record (`store-record`).
 use Prim.Native.Nat.{_+_}
 use mathlib.Core.Path.{_≡_, ap, _∙_}
 use lib.ListN.{length, length-set}

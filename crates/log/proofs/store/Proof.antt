@@ -1,3 +1,4 @@
+-- After i turns the first i words of the row stand from `at` on, and all else is as it was (`store-more`); at the end i is the count.
 use Prim.Native.Nat.{_+_, ℕ, _≤_, _-_}
 use mathlib.Core.Path.{_≡_, ap, _∙_}
 use mathlib.Core.List.{List}

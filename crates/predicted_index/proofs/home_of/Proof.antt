@@ -1,3 +1,4 @@
+-- After i turns h is table and first i words folded (`folded-more`); at the end i is k, and the high 13 bits of what is folded are below 8192 (`home-below`).
 use Prim.Native.Nat.{ℕ, _/_, _≤_, _-_}
 use mathlib.Core.Path.{_≡_, ap, _∙_}
 use native.Mathlib.Omega.{arith}

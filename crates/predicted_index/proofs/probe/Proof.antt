@@ -1,3 +1,4 @@
+-- After j turns the answer is that of 8192 - j slots from s on; a slot that is free or hit decides it, another leaves it (`probe-on`); no slot left is `Full`.
 use mathlib.Core.Path.{_≡_, sym, ap, _∙_}
 use Prim.Native.Nat.{ℕ, _≤_, _<_, _-_}
 use native.Mathlib.Nat.{sub-zero}

@@ -1,3 +1,4 @@
+-- Nothing but bounds: p is before the sample's end in each turn, as the calls require; `right` is k at most, and k is n at most, so no sum overflows.
 use borrow.Author.Tests.{ltb-true}
 use Prim.Native.Nat.{_≤_, _-_}
 use mathlib.Core.Logic.{⊎-elim}

@@ -1,3 +1,4 @@
+-- Nothing but lengths: the first n words of an array of 20480 are n words (`lent-length`), and by the contract of `lent` n is 20480 at most.
 use Prim.Native.Nat.{ℕ, _≤_}
 use mathlib.Core.Path.{_≡_, sym, subst}
 use lib.ListN.{length, take, replicate, length-replicate}

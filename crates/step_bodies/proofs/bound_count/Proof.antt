@@ -1,3 +1,4 @@
+-- After v turns n is how many of the first v variables are bound (`iter-more`), which is v at most (`howMany-le`); at the end v is 32.
 use native.Mathlib.Numerals.{add-one}
 use mathlib.Core.Path.{_∙_, _≡_}
 use Prim.Native.Nat.{ℕ, suc, _-_, _≤_}

@@ -1,3 +1,4 @@
+-- `end` is `at` plus the body's length (`length-batch`); without room nothing is written (`placed-not`), else the stores are one store of it (`put-three`).
 use native.Mathlib.Nat.{le-trans, le-add-right}
 use Rattle.step_bodies.specs.Runs.{runs, put-three}
 use Rattle.mask.specs.Masks.{count}

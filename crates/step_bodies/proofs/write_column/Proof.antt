@@ -1,3 +1,4 @@
+-- By whether it is bound: if so, variable and column, stored one after the other, are one store (`put-cons`) and have room (`room`); else there is no word.
 use Rattle.step_bodies.specs.Runs.{put-cons}
 use native.Mathlib.Nat.{add-sub-cancel-left}
 use Prim.Native.Nat.{ℕ, _+_, _*_, _<_, _≤_, _-_}

@@ -1,3 +1,4 @@
+-- After v turns the words of the first v variables stand from `start` on, and `at` is past them (`put-more`, `end-more`); the next have room (`put-fits`).
 use mathlib.Core.List.{List}
 use Rattle.step_bodies.specs.Steps.{columnWords}
 use Rattle.step_bodies.specs.Runs.{runs, put-none, end-none, put-more, end-more, put-fits}

@@ -1,3 +1,4 @@
+-- After i turns the flags of the first i lanes stand from `at` on, and all else is as it was (`store-more`); at the end i is `lanes`.
 use Rattle.log.specs.LogLaws.{store-more}
 use Rattle.model.specs.Answer.{flag}
 use Rattle.model.specs.Basics.{tab}

@@ -1,3 +1,4 @@
+-- By the test: without room nothing is written (`placed-not`); with room flag and row, stored one after the other, are one store (`put-cons`, `placed-fits`).
 use Rattle.model.specs.Answer.{flag}
 use Rattle.step_bodies.specs.StepLaws.{placed-fits, placed-not}
 use Rattle.step_bodies.specs.Steps.{predictionWords}

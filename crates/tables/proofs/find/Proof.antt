@@ -1,3 +1,4 @@
+-- After i turns `at` is the word of row i, and no row before it has the key; a row that has it is the first (`found-at`), else none has (`found-nothing`).
 use Rattle.tables.specs.declared.Found.the-variants.{At}
 use Prim.Native.Nat.{ℕ, _+_, _*_, _≤_, _<_, _-_}
 use mathlib.Core.Path.{_≡_, sym, ap, _∙_}

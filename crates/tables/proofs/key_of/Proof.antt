@@ -1,3 +1,4 @@
+-- After i turns the first i of the 16 are the first i words of the row, the rest 0 (`filled-turn`); at the end i is k.
 use mathlib.Core.Path.{refl, _≡_}
 use Prim.Native.Nat.{_≤_, _-_}
 use native.Mathlib.Omega.{arith}

@@ -1,3 +1,4 @@
+-- The first i words are the key's; one that is not decides (`same-not`), and at the end i is k, so all are (`same-all`).
 use Prim.Native.Nat.{ℕ, _+_, _≤_, _<_, _-_}
 use mathlib.Core.Path.{_≡_, sym}
 use lib.ListN.{getD}

@@ -1,3 +1,4 @@
+-- After i turns the first i words are those of the bytes, the rest as they were (`filled-turn`); at the end i is the length, and there is no rest.
 use Rattle.words.specs.Filled.{filled-turn}
 use mathlib.Core.Path.{_≡_, ap, _∙_}
 use Prim.Native.Nat.{ℕ, _≤_, _-_}

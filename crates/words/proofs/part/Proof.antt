@@ -1,3 +1,4 @@
+-- By how many words there are from `at` on: none, and the part is empty; n at most, and it is all of them (`take-all`); more, and it is the first n.
 use mathlib.Core.Path.{sym, ap, _∙_}
 use Prim.Native.Nat.{ℕ, _-_}
 use native.Mathlib.Nat.{add-sub-cancel-left}

@@ -1,3 +1,4 @@
+-- By the test: i is below the count of whole words (`length-words`), and the word read is that word (`getD-words`); or it is not, and both sides are 0.
 use Prim.Native.Nat.{_<_, _≤_}
 use mathlib.Core.Path.{sym, _∙_}
 use native.Mathlib.Omega.{arith}

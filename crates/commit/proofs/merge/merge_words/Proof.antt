@@ -1,3 +1,4 @@
+-- After i turns the first i words are merged and the others old, so a turn reads an old word (`merge-turn`); all of them are the model's (`merge-all`).
 use Prim.Native.Nat.{ℕ, _≤_, _-_}
 use mathlib.Core.Path.{_≡_, ap, _∙_}
 use native.Mathlib.Omega.{arith}

@@ -1,3 +1,4 @@
+-- The walk over the records has come to p with `any` (`reached-more` for a turn); it is done where the record at p ends past the log (`reached-end`).
 use Prim.Native.Nat.{ℕ, _-_}
 use mathlib.Core.Path.{_≡_, ap}
 use mathlib.Core.Bool.{false, _||_}

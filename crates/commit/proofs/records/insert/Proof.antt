@@ -1,3 +1,4 @@
+-- By the tests, which decide `isInsertion`: where it is false nothing is changed; else the part lent to `put` is the record's row, which ends in the log.
 use Prim.Native.Nat.{ℕ, _+_}
 use mathlib.Core.Path.{ap, _∙_}
 use native.Mathlib.Nat.{add-sub-cancel-left}

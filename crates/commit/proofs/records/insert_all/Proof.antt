@@ -1,3 +1,4 @@
+-- The walk has come to p with these rows (`reached-more`), which stand (`insert-keeps`), and the index is theirs; past the log it is done (`reached-end`).
 use Prim.Native.Nat.{_-_}
 use mathlib.Core.Path.{_≡_, refl, sym, ap, _∙_, subst}
 use native.Mathlib.Omega.{arith}

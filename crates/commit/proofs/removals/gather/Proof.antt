@@ -1,3 +1,4 @@
+-- By the tests, which decide `isRemoval`: where it is false nothing is changed; else `copy` stores the key past n others; it ends in the log (`ends`).
 use Prim.Native.Nat.{ℕ, _+_, _*_, _≤_}
 use mathlib.Core.Path.{ap, _∙_}
 use mathlib.Core.List.{List}

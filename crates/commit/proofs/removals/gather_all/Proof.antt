@@ -1,3 +1,4 @@
+-- The walk has come to p with n keys stored, and n * (k + 2) ≤ p (`store-fits`), so there is room; at the end they are the removed keys (`stored-laid`).
 use Prim.Native.Nat.{_+_, _*_, _-_, _≤_}
 use mathlib.Core.Path.{_≡_, refl, ap, _∙_}
 use native.Mathlib.Omega.{arith}

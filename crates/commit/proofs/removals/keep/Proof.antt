@@ -1,3 +1,4 @@
+-- The front of `gone` is the table of removed keys (`front-keys`), and the rows that it spares are those kept (`spared-kept`), with an index and without.
 use Prim.Native.Nat.{_*_, _≤_}
 use mathlib.Core.Path.{_≡_, refl, sym, ap, _∙_}
 use mathlib.Core.Logic.{inl}

@@ -1,3 +1,4 @@
+-- After i turns `at` is the word of row i, and the rows are those spared of i rows (`iter-more`) and stand (`spare-keeps`); at the end i is n.
 use Prim.Native.Nat.{ℕ, _+_, _*_, _≤_, _-_}
 use mathlib.Core.Path.{_≡_, refl, sym, ap, _∙_, subst}
 use native.Mathlib.Nat.{add-sub-cancel-left}

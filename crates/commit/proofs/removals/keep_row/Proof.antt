@@ -1,3 +1,4 @@
+-- By what was found: a search by the copied key finds what one by the row does (`key-found`), so the two arms are the cases of `spareRow`.
 use mathlib.Core.Path.{_≡_, sym, _∙_}
 use denote.Ref.{now}
 use Rattle.tables.specs.Tables.{foundRow}

@@ -1,3 +1,4 @@
+-- By the tests: no index stays none (`none-stays`); a row without room leaves it (`uncounted`); else `add` makes it that of one row more (`append-indexed`).
 use Prim.Native.Nat.{ℕ}
 use mathlib.Core.Path.{sym, ap, _∙_, subst}
 use mathlib.Core.Logic.{_≢_}

@@ -1,3 +1,4 @@
+-- The table among the rows stands (`new-stands`), and the index is that of all its rows or none (`index-of`), as `look_up` requires; its answer is returned.
 use mathlib.Core.Path.{sym, ap, _∙_, subst}
 use native.Mathlib.Omega.{arith}
 use mathlib.Core.Logic.{inl, inr}

@@ -1,3 +1,4 @@
+-- By what was found: a row is merged, which leaves all keys and so the index (`merge-indexed`); where there is none, `append_noted` gives both.
 use Prim.Native.Nat.{ℕ, _+_, _-_, _≤_}
 use mathlib.Core.List.{List}
 use lib.Seq.{take-all}

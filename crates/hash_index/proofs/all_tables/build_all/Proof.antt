@@ -1,3 +1,4 @@
+-- After t turns the index has the rows of t tables, and `first` is their number (by definition); what `add_rows` requires: `before-within`, `book-tails`.
 use Prim.Native.Nat.{ℕ, _-_, _≤_}
 use mathlib.Core.Path.{_≡_, refl, sym, ap, _∙_}
 use native.Mathlib.Numerals.{add-one}

@@ -1,3 +1,4 @@
+-- After t turns `rows` is the sum for t tables, at most t * (2 ^ 32 - 1), so that the next sum does not overflow; at the end t is n.
 use Prim.Native.Nat.{_*_, _-_, _≤_}
 use mathlib.Core.Path.{_≡_, refl}
 use native.Mathlib.Numerals.{add-one}

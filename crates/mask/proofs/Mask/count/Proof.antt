@@ -1,3 +1,4 @@
+-- After i turns n is how many of the first i lanes are live (`iter-more`), which is i at most (`howMany-le`); at the end i is 256.
 use native.Mathlib.Numerals.{add-one}
 use mathlib.Core.Path.{_∙_, _≡_}
 use Prim.Native.Nat.{ℕ, suc, _-_, _≤_}

@@ -1,3 +1,4 @@
+-- After i turns the first i lanes are live if self has them and other has not, the rest as in self (`both-turn`); at the end i is 256 (`both-all`).
 use Prim.Native.Nat.{_-_, _≤_}
 use mathlib.Core.Path.{_≡_}
 use mathlib.Core.Bool.{false}

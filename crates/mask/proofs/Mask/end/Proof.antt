@@ -1,3 +1,4 @@
+-- After i turns `last` is the last live one of i lanes, or 0 for none (`last-turn`); at the end lane 0 is told from none by its mark (`end-by`).
 use Prim.Native.Nat.{_+_, _-_, _≤_}
 use mathlib.Core.Path.{_∙_, _≡_}
 use mathlib.Core.Bool.{false, cond}

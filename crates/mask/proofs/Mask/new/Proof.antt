@@ -1,3 +1,4 @@
+-- After i turns the first i marks say whether they are below `lanes`, the rest false (`filled-turn`); at the end i is 256, and all are replaced (`filled-all`).
 use Prim.Native.Nat.{ℕ, _-_, _≤_}
 use mathlib.Core.Path.{_≡_, refl, _∙_}
 use mathlib.Core.Bool.{false}

@@ -1,3 +1,4 @@
+-- The body read is that of entry count - 1, the log's; the lines of its records and after them the flag's are the lines of the log (`log-is`).
 use mathlib.Core.Path.{_≡_, ap, _∙_}
 use denote.Ref.{now}
 use lib.ListN.{getD}

@@ -1,3 +1,4 @@
+-- After i turns the lines of i entries are written and counted (`numbered-more`), and an entry has one at most (`one-line`); at the end i is the entry count.
 use Rattle.model.specs.Book.Contents.{count}
 use Rattle.report.specs.LinesLaws.{numbered-more, one-line, written-none}
 use mathlib.Core.Path.{_≡_, _∙_}

@@ -1,3 +1,4 @@
+-- By the kind, as `recordLine` goes by it: in each arm the bytes that `line` appends are those of the one line `del` or `ins` (`text-one`).
 use mathlib.Core.Path.{_∙_}
 use borrow.Author.Tests.{ne-eqb}
 use Rattle.model.specs.Printed.{ins, del}

@@ -1,3 +1,4 @@
+-- The walk over the records has come to p with their lines written (`reached-more`); at its end (`reached-end`) these are all lines (`written-records`).
 use mathlib.Core.Path.{_≡_, refl, _∙_}
 use native.Mathlib.Omega.{arith}
 use denote.Ref.{now}

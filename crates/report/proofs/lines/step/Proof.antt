@@ -1,3 +1,4 @@
+-- By the kind, as `entryLine` goes by it: for 6 and 7 one line is written and counted (`written-one`), for any other none (`written-none`).
 use Prim.Native.Nat.{_+_}
 use mathlib.Core.Path.{refl, _∙_}
 use denote.Ref.{now}

@@ -1,3 +1,4 @@
+-- To append all bytes to the buffer as it was is to append those from i on to it as it is (`byte-more`); at the end none is left.
 use Prim.Native.Nat.{_+_, _≤_, _-_}
 use mathlib.Core.Path.{_≡_, refl, sym, ap, _∙_}
 use lib.ListN.{length, drop}

@@ -1,3 +1,4 @@
+-- By the contracts of the four calls, one put into the other: name, first number, numbers, line feed; that is the whole line appended (`line-is`).
 use mathlib.Core.Path.{sym, ap, _∙_}
 use denote.Ref.{now}
 use Rattle.report.specs.Text.{field, fields, pushed, appended, upTo}

@@ -1,3 +1,4 @@
+-- `at` stays within the buffer, whose length stays; by the contract of `read_some` the bytes read end past `at` and within it, so less room is left each turn.
 use Prim.Native.Nat.{_-_, _≤_}
 use mathlib.Core.Path.{_≡_, _∙_}
 use native.Mathlib.Omega.{arith}
