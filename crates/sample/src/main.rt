@@ -86,11 +86,12 @@ fn run_at(
 {
     let book = part(sample, 4 * (p + 8), words::size_in(sample, p + 5));
     let outcome = engine::run(book, bindings, index, log, tables, answer);
+    let right = agrees(sample, p, outcome, answer);
     let zero = words::all_zero(bindings)
         & words::all_zero(index)
         & words::all_zero(log)
         & words::all_zero(tables);
-    zero & agrees(sample, p, outcome, answer)
+    zero & right
 }
 
 // Runs the book at word p with as many words as the sample lends it. None of them is zero before.
