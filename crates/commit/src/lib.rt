@@ -94,7 +94,7 @@ fn commit_all(
     done
 }
 
-// The same. The keys of a small log's removals have room in an array that is sooner cleared.
+// The same, with an array of its own for the keys of removals: a small one for a small log, since clearing it takes less time.
 pub fn commit(words: &[u32], tables: usize, log: &[u32], rows: &mut [u32]) -> Committed
     requires { ⌜ (tables ≤ 16) × (length (now log) ≤ 16384) × (length (now rows) ≤ 16384)
         × ((t : ℕ) → t < tables → RowsStand (now words) (infoOf (now words) t)) ⌝ }

@@ -116,7 +116,7 @@ fn decide_words(
     }
 }
 
-// The same, with words of its own: those of a small book have room in an array that is sooner cleared.
+// The same, with an array of its own for the words: a small one for a small book, since clearing it takes less time.
 fn decide_book(
     book: &[u8],
     bindings: &mut [u32],

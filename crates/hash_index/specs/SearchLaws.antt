@@ -94,7 +94,7 @@ module _ (w : List ℕ) (t : TableInfo) (key : List ℕ) where
     nearer j v lt (none f) = omega (arith, has .few)
     nearer j v lt (some x le m e f) = omega (arith, has .few)
 
-    -- the row that p tells, if it is one of the table
+    -- row p - 1 of all rows, if it is one of the table
     missed-here : (p j : ℕ) → isRow w t key b p ≡ false → j < t .rows → b + j ≡ p - 1 → p ≢ 0 → Missed j
     unfolding isRow
     missed-here p j e lt q n =

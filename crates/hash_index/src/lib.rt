@@ -82,7 +82,7 @@ pub fn build(words: &[u32], info: TableInfo, index: &mut [u32])
     add_rows(words, info, 0, index)
 }
 
-// The word of the row that p tells, of a table whose first row has the number `first`.
+// The first word of row p - 1 of all rows, which is one of a table whose first row has the number `first`.
 fn place(info: TableInfo, first: usize, p: usize) -> usize
     requires { ⌜ (first < p) × (p ≤ first + info .rows) × (info .at + info .rows * info .width < 2 ^ 64) ⌝ }
     ensures { λ r. ⌜ r ≡ rowAt info (p - 1 - first) ⌝ }
@@ -90,7 +90,7 @@ fn place(info: TableInfo, first: usize, p: usize) -> usize
     info.at + (p - 1 - first) * info.width
 }
 
-// Whether p tells a row of the table, and it has the key.
+// Whether row p - 1 of all rows is one of the table, and has the key.
 fn is_row(words: &[u32], info: TableInfo, first: usize, p: usize, key: &[u32; 16]) -> bool
     requires { ⌜ Stands (now words) info × (first + info .rows ≤ 16384) ⌝ }
     ensures { λ r. ⌜ r ≡ isRow (now (words .entry)) info (now (key .entry)) first p ⌝ }

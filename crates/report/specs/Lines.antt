@@ -13,7 +13,7 @@ use Rattle.report.specs.declared.lines.Family.the-variants.{Steps, Table
 use Rattle.report.specs.declared.lines.Lines.{Lines}
 use Rattle.report.specs.Text.{text, upTo, appended}
 
--- The lines of an answer, read from its words. Every function here is total: of other words it says something or other.
+-- The lines of an answer, read from its words. Every function here is total: of other words its value means nothing and is never used.
 
 -- the lines of the first n entries: f k i has the line of entry i, if it gives one, as the one with number k
 unfoldable pub numbered : (ℕ → ℕ → List Line) → ℕ → List Line

@@ -21,7 +21,7 @@ pub enum Found {
     Nothing,
 }
 
-// Read from the book's words, where the table's body begins; of what is no table it says something or other.
+// Read from the book's words, where the table's body begins; where no table stands, the numbers mean nothing.
 pub fn info_at(words: &[u32], body: usize) -> TableInfo
     requires { ⌜ body + 4 < 2 ^ 64 ⌝ }
     ensures { λ r. ⌜ r ≡ infoAt (now (words .entry)) body ⌝ }

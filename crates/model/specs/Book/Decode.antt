@@ -1,4 +1,4 @@
--- What stands in a body with which the walk of Book/Scan finds no fault. Every function here is total: of another body it says something or other.
+-- What stands in a body with which the walk of Book/Scan finds no fault. Every function here is total: of another body its value means nothing and is never used.
 use Prim.Native.Nat.{ℕ, zero, suc, _+_, _*_}
 use mathlib.Core.List.{List, [], _∷_}
 use lib.ListN.{getD, take, drop}
