@@ -5,6 +5,7 @@ use bindings::Bindings;
 use execution::Change;
 use execution::ExecutionState;
 use execution::Staging;
+use ids::STALE;
 use instr::Dst;
 use instr::Instr;
 use lanes::Ask;
@@ -264,7 +265,7 @@ fn run_instr(
 {
     let mask = batch.mask;
     let state = batch.state;
-    let mut out = [4294967295u32; 256];
+    let mut out = [STALE; 256];
     let acted = act(
         words,
         chains,

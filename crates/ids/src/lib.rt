@@ -1,5 +1,8 @@
 // Numbers that name something in a book, each of a type of its own, so that one never stands for another.
 
+// The stale mark: what a variable has in a lane that got no word. No word of a book that is a value may be it.
+pub const STALE: u32 = 4294967295;
+
 // A table, counted from 0 among the tables of a book.
 pub struct TableId(pub u32);
 

@@ -3,8 +3,7 @@ ghost use mathlib.Core.Path.{_≡_};
 ghost use Prim.Native.Nat.{_+_};
 ghost use Rattle.model.specs.Book.Scan as spec;
 ghost use Rattle.reader.specs.Values.{drawOf, testOf, scanOf};
-
-const STALE: u32 = 4294967295;
+use ids::STALE;
 
 // What a word draws: nothing, 3, 6 or 4.
 enum Draw {
