@@ -11,8 +11,10 @@ use borrow.Author.Tests.{lt-ltb, le-ltb, le-leb, lt-leb, eq-eqb, ne-eqb, eqb-tru
 use lib.ListN.{length, getD, set}
 use lib.Seq.{getD-set-same, getD-set-other}
 use Rattle.model.specs.Laws.Lists.{none-least, some-least}
-use Rattle.model.specs.Book.Contents.{group, most, count, groupOf, firstOf, members, begins, lastGroup, entryFits, countFits, contentsRefusal}
+use Rattle.model.specs.Book.Contents.{group, most, count, groupOf, firstOf, members, begins, lastGroup, entryFits, countFits, contentsRefusal, firstRule, firstStep}
 use Rattle.model.specs.Laws.Contents.{members-le}
+use Rattle.contents.specs.declared.Contents.{Contents}
+use Rattle.contents.specs.Contents.{ContentsOf}
 
 pub group-rest : (k : ℕ) → (0 < k → 5 < k) → 0 ≡ group k
 group-rest zero h = refl
@@ -137,3 +139,12 @@ module _ (w : List ℕ) (g i : ℕ) where
 pub none-counted : (w : List ℕ) (g : ℕ) → 0 ≡ members w g 0
 unfolding members
 none-counted w g = refl
+
+-- ## What `first_rule` and `first_step` answer
+
+module _ {w : List ℕ} {c : Contents} (h : ContentsOf w c) {r : ℕ} where
+  pub first-rule-is : r ≡ c .tables + c .counters → r ≡ firstRule w
+  first-rule-is e = omega (arith, h .tables, h .counters)
+
+  pub first-step-is : r ≡ c .tables + c .counters + c .rules → r ≡ firstStep w
+  first-step-is e = omega (arith, h .tables, h .counters, h .rules)

@@ -5,22 +5,62 @@ ghost use Prim.Native.Nat.{_+_, _*_, _≤_, _<_};
 ghost use lib.Dec.{eqb, ltb, leb};
 ghost use lib.ListN.{length};
 ghost use Rattle.model.specs.Book.Contents as contents;
-ghost use Rattle.contents.specs.Contents.{refusalOf, SizesOf};
+ghost use Rattle.contents.specs.Contents.{refusalOf, ContentsOf};
 
-// What the contents come to: they pass, or the count, an entry or the book's end is at fault.
-pub enum Contents {
+// What refusal 2 comes to: the contents pass, or the count, an entry or the book's end is at fault.
+pub enum Checked {
     Pass,
     Count,
     Entry(usize),
     End,
 }
 
-// How many of each there are.
-pub struct Sizes {
+// How many of each a book has. Their entries stand in this order.
+pub struct Contents {
     pub tables: u32,
     pub counters: u32,
     pub rules: u32,
     pub steps: u32,
+}
+
+impl Contents {
+    pub fn table_count(self) -> usize
+        ensures { λ r. ⌜ r ≡ self .tables ⌝ }
+    {
+        words::size(self.tables)
+    }
+
+    pub fn counter_count(self) -> usize
+        ensures { λ r. ⌜ r ≡ self .counters ⌝ }
+    {
+        words::size(self.counters)
+    }
+
+    pub fn rule_count(self) -> usize
+        ensures { λ r. ⌜ r ≡ self .rules ⌝ }
+    {
+        words::size(self.rules)
+    }
+
+    pub fn step_count(self) -> usize
+        ensures { λ r. ⌜ r ≡ self .steps ⌝ }
+    {
+        words::size(self.steps)
+    }
+
+    // The rules' first entry.
+    pub fn first_rule(self) -> usize
+        ensures { λ r. ⌜ r ≡ self .tables + self .counters ⌝ }
+    {
+        words::size(self.tables) + words::size(self.counters)
+    }
+
+    // The steps' first entry.
+    pub fn first_step(self) -> usize
+        ensures { λ r. ⌜ r ≡ self .tables + self .counters + self .rules ⌝ }
+    {
+        words::size(self.tables) + words::size(self.counters) + words::size(self.rules)
+    }
 }
 
 // Entries go by groups of kinds: 4 and 5, the steps, are one, and each other kind is one of its own. 0 is no kind.
@@ -110,17 +150,17 @@ fn members(words: &[u32], n: usize, g: u32) -> u32
     c
 }
 
-// How many tables, counters, rules and steps a book has whose count is at most 128.
-pub fn sizes_of(words: &[u32]) -> Sizes
+// The contents of a book whose count is at most 128.
+pub fn of(words: &[u32]) -> Contents
     requires { ⌜ contents.count (now words) ≤ 128 ⌝ }
-    ensures { λ r. ⌜ SizesOf (now (words .entry)) r ⌝ }
+    ensures { λ r. ⌜ ContentsOf (now (words .entry)) r ⌝ }
 {
     let n = words::size(words::word(words, 0));
     let tables = members(words, n, 1);
     let counters = members(words, n, 2);
     let rules = members(words, n, 3);
     let steps = members(words, n, 4);
-    Sizes {
+    Contents {
         tables,
         counters,
         rules,
@@ -129,19 +169,19 @@ pub fn sizes_of(words: &[u32]) -> Sizes
 }
 
 // Refusal 2.
-pub fn check(words: &[u32]) -> Contents
+pub fn check(words: &[u32]) -> Checked
     requires { ⌜ (0 < length (now words)) × (length (now words) ≤ 16384) ⌝ }
     ensures { λ r. ⌜ refusalOf r ≡ contents.contentsRefusal (now (words .entry)) ⌝ }
 {
     let n = words::size(words[0]);
     if n == 0 {
-        return Contents::Count;
+        return Checked::Count;
     }
     if 128 < n {
-        return Contents::Count;
+        return Checked::Count;
     }
     if words.len() < 1 + 3 * n {
-        return Contents::Count;
+        return Checked::Count;
     }
     let mut counts = [0u32; 5];
     let mut last: u32 = 1;
@@ -153,7 +193,7 @@ pub fn check(words: &[u32]) -> Contents
         let k = words::size(g);
         let seen = counts[k] + 1;
         if !fits(last, g, seen, first, end) {
-            return Contents::Entry(i);
+            return Checked::Entry(i);
         }
         counts[k] = seen;
         last = g;
@@ -161,8 +201,8 @@ pub fn check(words: &[u32]) -> Contents
         i += 1;
     }
     if end == words.len() {
-        Contents::Pass
+        Checked::Pass
     } else {
-        Contents::End
+        Checked::End
     }
 }

@@ -5,7 +5,7 @@ use mathlib.Core.List.{List, [], _∷_}
 use Rattle.model.specs.Basics.{found}
 use Rattle.model.specs.Book.Layout as layout
 use Rattle.model.specs.Book.Scan as spec
-use Rattle.contents.specs.declared.Sizes.{Sizes}
+use Rattle.contents.specs.declared.Contents.{Contents}
 use Rattle.reader.specs.declared.scan.Draw.{Draw}
 use Rattle.reader.specs.declared.scan.Draw.the-variants.{Fine, Layout, Absent, Stale}
 use Rattle.reader.specs.declared.scan.Test.{Test}
@@ -32,7 +32,7 @@ abbrev pub scanOf : Scan → spec.Scan
 scanOf Bad = spec.bad
 scanOf (Good at p q) = spec.good at p q
 
-abbrev pub sizesOf : Sizes → spec.Sizes
+abbrev pub sizesOf : Contents → spec.Sizes
 sizesOf z = record { tables = z .tables; counters = z .counters; rules = z .rules }
 
 -- ## Fields

@@ -9,7 +9,7 @@ use crate::instructions;
 use crate::scan;
 use crate::scan::Scan;
 use crate::scan::Test;
-use contents::Sizes;
+use contents::Contents;
 
 // A walk that begins at the word `at`.
 fn start(at: usize) -> Scan
@@ -113,7 +113,7 @@ fn counter(end: usize, words: &[u32], at: usize) -> Scan
 }
 
 // Starting variables, instruction count, instructions.
-fn rule(end: usize, words: &[u32], sizes: Sizes, at: usize) -> Scan
+fn rule(end: usize, words: &[u32], sizes: Contents, at: usize) -> Scan
     ensures { λ r. ⌜ scanOf r ≡ spec.scanRule end (now (words .entry)) (sizesOf sizes) at ⌝ }
 {
     let s = scan::word(end, words, Test::UpTo(32), start(at));
@@ -122,7 +122,7 @@ fn rule(end: usize, words: &[u32], sizes: Sizes, at: usize) -> Scan
 }
 
 // The rule, how many lanes and variables there are, and a column for each variable.
-fn batch(end: usize, words: &[u32], sizes: Sizes, at: usize) -> Scan
+fn batch(end: usize, words: &[u32], sizes: Contents, at: usize) -> Scan
     requires { ⌜ at < 2 ^ 32 ⌝ }
     ensures { λ r. ⌜ scanOf r ≡ spec.scanBatch end (now (words .entry)) (sizesOf sizes) at ⌝ }
 {
@@ -135,7 +135,7 @@ fn batch(end: usize, words: &[u32], sizes: Sizes, at: usize) -> Scan
 }
 
 // The table, the words of a key, and write values, which are constants or counters; a count comes before each list.
-fn prediction(end: usize, words: &[u32], sizes: Sizes, at: usize) -> Scan
+fn prediction(end: usize, words: &[u32], sizes: Contents, at: usize) -> Scan
     ensures { λ r. ⌜ scanOf r ≡ spec.scanPrediction end (now (words .entry)) (sizesOf sizes) at ⌝ }
 {
     let s = scan::word(end, words, Test::Below(sizes.tables), start(at));
@@ -145,7 +145,7 @@ fn prediction(end: usize, words: &[u32], sizes: Sizes, at: usize) -> Scan
 }
 
 // A body by its kind.
-fn by_kind(end: usize, words: &[u32], sizes: Sizes, kind: u32, at: usize) -> Scan
+fn by_kind(end: usize, words: &[u32], sizes: Contents, kind: u32, at: usize) -> Scan
     requires { ⌜ at < 2 ^ 32 ⌝ }
     ensures { λ r. ⌜ scanOf r ≡ spec.scan end (now (words .entry)) (sizesOf sizes) kind at ⌝ }
 {
@@ -160,7 +160,7 @@ fn by_kind(end: usize, words: &[u32], sizes: Sizes, kind: u32, at: usize) -> Sca
 }
 
 // Body i.
-pub fn walk(words: &[u32], sizes: Sizes, i: usize) -> Scan
+pub fn walk(words: &[u32], sizes: Contents, i: usize) -> Scan
     requires { ⌜ (i < 128) × (sizesOf sizes ≡ read.sizes (now words)) ⌝ }
     ensures { λ r. ⌜ scanOf r ≡ read.walk (now (words .entry)) i ⌝ }
 {

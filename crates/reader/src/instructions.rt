@@ -7,7 +7,7 @@ use crate::scan;
 use crate::scan::Scan;
 use crate::scan::Test;
 use Field::*;
-use contents::Sizes;
+use contents::Contents;
 
 // What a field of an instruction holds; nothing past its last field.
 enum Field {
@@ -24,7 +24,7 @@ enum Field {
 }
 
 // What the word after a tag has to be: the number of a variable, a constant, the number of a counter, or any column.
-fn tagged(sizes: Sizes, tag: u32) -> Test
+fn tagged(sizes: Contents, tag: u32) -> Test
     ensures { λ r. ⌜ testOf r ≡ spec.tagged (sizesOf sizes) tag ⌝ }
 {
     match tag {
@@ -36,7 +36,7 @@ fn tagged(sizes: Sizes, tag: u32) -> Test
 }
 
 // An entry or write value, whose tag is one from `from` to `to`.
-fn pair(end: usize, words: &[u32], sizes: Sizes, from: u32, to: u32, s: Scan) -> Scan
+fn pair(end: usize, words: &[u32], sizes: Contents, from: u32, to: u32, s: Scan) -> Scan
     ensures { λ r. ⌜ scanOf r ≡ spec.pair end (now (words .entry)) (sizesOf sizes) from to (scanOf s) ⌝ }
 {
     let tag = scan::peek(words, s);
@@ -45,7 +45,7 @@ fn pair(end: usize, words: &[u32], sizes: Sizes, from: u32, to: u32, s: Scan) ->
 }
 
 // A count, 16 at most, and as many entries or write values.
-pub fn pairs(end: usize, words: &[u32], sizes: Sizes, from: u32, to: u32, s: Scan) -> Scan
+pub fn pairs(end: usize, words: &[u32], sizes: Contents, from: u32, to: u32, s: Scan) -> Scan
     ensures { λ r. ⌜ scanOf r ≡ spec.list end (now (words .entry)) 16 (spec.pair end (now (words .entry)) (sizesOf sizes) from to)
         (scanOf s) ⌝ }
 {
@@ -64,7 +64,7 @@ pub fn pairs(end: usize, words: &[u32], sizes: Sizes, from: u32, to: u32, s: Sca
 }
 
 // Past a field.
-fn walk_field(end: usize, words: &[u32], sizes: Sizes, f: Field, s: Scan) -> Scan
+fn walk_field(end: usize, words: &[u32], sizes: Contents, f: Field, s: Scan) -> Scan
     ensures { λ r. ⌜ scanOf r ≡ walkField end (now (words .entry)) (sizesOf sizes) f (scanOf s) ⌝ }
 {
     match f {
@@ -104,7 +104,7 @@ fn fields(op: u32) -> [Field; 6]
 }
 
 // One instruction.
-fn instr(end: usize, words: &[u32], sizes: Sizes, s: Scan) -> Scan
+fn instr(end: usize, words: &[u32], sizes: Contents, s: Scan) -> Scan
     ensures { λ r. ⌜ scanOf r ≡ spec.instr end (now (words .entry)) (sizesOf sizes) (scanOf s) ⌝ }
 {
     let fs = fields(scan::peek(words, s));
@@ -119,7 +119,7 @@ fn instr(end: usize, words: &[u32], sizes: Sizes, s: Scan) -> Scan
 }
 
 // A count, 64 at most, and as many instructions.
-pub fn instrs(end: usize, words: &[u32], sizes: Sizes, s: Scan) -> Scan
+pub fn instrs(end: usize, words: &[u32], sizes: Contents, s: Scan) -> Scan
     ensures { λ r. ⌜ scanOf r ≡ spec.list end (now (words .entry)) 64 (spec.instr end (now (words .entry)) (sizesOf sizes)) (scanOf s) ⌝ }
 {
     let n = scan::peek(words, s);

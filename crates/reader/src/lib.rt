@@ -15,8 +15,8 @@ mod instructions;
 mod rows;
 mod scan;
 
+use contents::Checked;
 use contents::Contents;
-use contents::Sizes;
 use scan::Scan;
 
 // What a reading comes to. An entry of the contents or the layout of a body is at fault; or at a word of the book a number names what is absent, a word is the stale mark, or a row begins that repeats a key.
@@ -30,7 +30,7 @@ pub enum Reading {
 }
 
 // Refusals 3, 6, 4 and 5 of body i.
-fn body(words: &[u32], sizes: Sizes, i: usize) -> Reading
+fn body(words: &[u32], sizes: Contents, i: usize) -> Reading
     requires { ⌜ BodyAt (now words) (sizesOf sizes) i ⌝ }
     ensures { λ r. ⌜ refusalOf r ≡ bodyRefusal (now (words .entry)) i ⌝ }
 {
@@ -61,7 +61,7 @@ fn all_bodies(words: &[u32]) -> Reading
     requires { ⌜ contentsRefusal (now words) ≡ none ⌝ }
     ensures { λ r. ⌜ refusalOf r ≡ bodiesRefusal (now (words .entry)) ⌝ }
 {
-    let sizes = contents::sizes_of(words);
+    let sizes = contents::of(words);
     let n = words::size_at(words, 0);
     let mut i = 0;
     while i < n {
@@ -83,9 +83,9 @@ pub fn read(words: &[u32]) -> Reading
     ensures { λ r. ⌜ refusalOf r ≡ (contentsRefusal (now (words .entry)) else λ _. bodiesRefusal (now (words .entry))) ⌝ }
 {
     match contents::check(words) {
-        Contents::Pass => all_bodies(words),
-        Contents::Count => Reading::Contents(0),
-        Contents::Entry(i) => Reading::Contents(i),
-        Contents::End => Reading::Contents(0),
+        Checked::Pass => all_bodies(words),
+        Checked::Count => Reading::Contents(0),
+        Checked::Entry(i) => Reading::Contents(i),
+        Checked::End => Reading::Contents(0),
     }
 }

@@ -21,8 +21,8 @@ Inv-loop words sizes n i₀ i = (i ≤ n) × ((j : ℕ) → j < i → none ≡ b
 abbrev μ-loop : tie.MeasureT-loop
 μ-loop words sizes n i₀ i = n - i
 
-sizes-of-requires : tie.Need-sizes-of-requires Inv-loop μ-loop
-sizes-of-requires c κs = contents-ok (now (c .before .args .words)) (c .before .pre) .counted .most
+of-requires : tie.Need-of-requires Inv-loop μ-loop
+of-requires c κs = contents-ok (now (c .before .args .words)) (c .before .pre) .counted .most
 
 loop-holds : tie.Need-loop-holds Inv-loop μ-loop
 loop-holds c = (search needs, λ j h. absurd (omega arith))
@@ -30,7 +30,7 @@ loop-holds c = (search needs, λ j h. absurd (omega arith))
 body-requires : tie.Need-body-requires Inv-loop μ-loop
 body-requires c κs =
     let pre = c .before .before .before .before .before .pre in
-    let z = c .before .before .before .sizes-of .ensures in
+    let z = c .before .before .before .of .ensures in
     record { contents = pre; below = omega arith; isSizes = rw (z .tables, z .counters, z .rules) }
 
 returns : tie.Need-returns Inv-loop μ-loop
@@ -57,7 +57,7 @@ all-bodies-spec =
     (tie.spec
     Inv-loop
     μ-loop
-    sizes-of-requires
+    of-requires
     (λ c κs. search needs)
     loop-holds
     body-requires
