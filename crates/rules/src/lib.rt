@@ -3,11 +3,12 @@ ghost use mathlib.Core.Path.{_≡_};
 ghost use Prim.Native.Nat.{_≤_, _<_};
 ghost use lib.ListN.{length};
 ghost use Rattle.model.specs.Basics.{_else_};
-ghost use Rattle.model.specs.Book.Contents as contents;
+ghost use Rattle.model.specs.Book.Contents.{ruleCount};
 ghost use Rattle.model.specs.Book.Read as read;
 ghost use Rattle.model.specs.Outcome as outcome;
 ghost use Rattle.rules.specs.Rules.{refusalOf, isRefusal, unfitOf, verdictOf};
 ghost use Rattle.model.specs.Laws.Book.{Readable};
+ghost use Rattle.contents.specs.Contents.{ContentsOf};
 
 mod fit;
 mod instructions;
@@ -15,6 +16,7 @@ mod lists;
 mod shapes;
 
 use bound_vars::Bound;
+use contents::Contents;
 use reader::Reading;
 
 // What an instruction, a rule or all rules come to: they pass, or the instruction whose opcode stands at a place is refused.
@@ -75,12 +77,12 @@ impl Fitting {
     }
 }
 
-// The first of these refusals that rule r draws. The rules' first entry in the contents is `base`.
-pub fn check_rule(words: &[u32], base: usize, r: usize) -> Checking
-    requires { ⌜ Readable (now words) × (base ≡ contents.firstRule (now words)) × (r < contents.ruleCount (now words)) ⌝ }
+// The first of these refusals that rule r draws.
+pub fn check_rule(words: &[u32], contents: Contents, r: usize) -> Checking
+    requires { ⌜ Readable (now words) × ContentsOf (now words) contents × (r < ruleCount (now words)) ⌝ }
     ensures { λ c. ⌜ refusalOf c ≡ outcome.ruleRefusal (now (words .entry)) r ⌝ }
 {
-    let first = contents::first_of(words, base + r);
+    let first = contents::first_of(words, contents.first_rule() + r);
     let starts = words::size(words::word(words, first));
     let n = words::size(words::word(words, first + 1));
     let mut bound = Bound::first(starts);
@@ -100,16 +102,14 @@ pub fn check_rule(words: &[u32], base: usize, r: usize) -> Checking
 }
 
 // The first of these refusals that the rules draw.
-pub fn check_rules(words: &[u32]) -> Checking
-    requires { ⌜ Readable (now words) ⌝ }
+pub fn check_rules(words: &[u32], contents: Contents) -> Checking
+    requires { ⌜ Readable (now words) × ContentsOf (now words) contents ⌝ }
     ensures { λ c. ⌜ refusalOf c ≡ outcome.rulesRefusal (now (words .entry)) ⌝ }
 {
-    let z = contents::sizes_of(words);
-    let base = words::size(z.tables) + words::size(z.counters);
-    let n = words::size(z.rules);
+    let n = contents.rule_count();
     let mut r = 0;
     while r < n {
-        let c = check_rule(words, base, r);
+        let c = check_rule(words, contents, r);
         if c.is_refusal() {
             return c;
         }
@@ -119,18 +119,15 @@ pub fn check_rules(words: &[u32]) -> Checking
 }
 
 // Refusal 11.
-pub fn fit_steps(words: &[u32]) -> Fitting
-    requires { ⌜ Readable (now words) ⌝ }
+pub fn fit_steps(words: &[u32], contents: Contents) -> Fitting
+    requires { ⌜ Readable (now words) × ContentsOf (now words) contents ⌝ }
     ensures { λ r. ⌜ unfitOf r ≡ read.stepsRefusal (now (words .entry)) ⌝ }
 {
-    let z = contents::sizes_of(words);
-    let base = words::size(z.tables) + words::size(z.counters);
-    let steps = base + words::size(z.rules);
-    let n = words::size(z.steps);
+    let n = contents.step_count();
     let mut k = 0;
     while k < n {
-        if !fit::step_fits(words, base, steps, k) {
-            return Fitting::Unfit(steps + k);
+        if !fit::step_fits(words, contents, k) {
+            return Fitting::Unfit(contents.first_step() + k);
         }
         k += 1;
     }
@@ -142,11 +139,12 @@ pub fn check_book(words: &[u32]) -> Verdict
     requires { ⌜ Readable (now words) ⌝ }
     ensures { λ r. ⌜ verdictOf r ≡ (outcome.rulesRefusal (now (words .entry)) else λ _. read.stepsRefusal (now (words .entry))) ⌝ }
 {
-    let c = check_rules(words);
+    let contents = contents::of(words);
+    let c = check_rules(words, contents);
     if c.is_refusal() {
         return c.verdict();
     }
-    fit_steps(words).verdict()
+    fit_steps(words, contents).verdict()
 }
 
 // The first of refusals 2 to 11 of a book's words.

@@ -9,6 +9,7 @@ use Rattle.model.specs.Check.{bound?}
 use Rattle.model.specs.Outcome.{ruleFirst}
 use Rattle.instr.specs.Instr.{instrAt}
 use Rattle.model.specs.Laws.Book.{rule-entry}
+use Rattle.contents.specs.ContentsLaws.{first-rule-is}
 use Rattle.instr.specs.StandsLaws.{binds-variable}
 use Rattle.bound_vars.specs.BoundLaws.{length-first, length-binding}
 use Rattle.rules.specs.RuleLaws.{At, many, ruleOf, placeOf, Passed, bound-start, small-here, stands-here, next-here, bound-here, rule-on, rule-stop, rule-end}
@@ -19,6 +20,7 @@ use Rattle.rules.proofs.check_rule.Statement.{statement}
 use Rattle.rules.proofs.check_rule.Tie as tie
 use Rattle.rules.proofs.check_rule.Reads as reads
 use Rattle.rules.proofs.check_rule.Lts as lts
+use Rattle.contents.proofs.Contents.first_rule.Reads as first-rule-reads
 use Rattle.contents.proofs.first_of.Reads as first-of-reads
 use Rattle.instr.proofs.instr_at.Reads as instr-at-reads
 use Rattle.instr.proofs.next.Reads as next-reads
@@ -30,54 +32,54 @@ use Rattle.words.proofs.size.Reads as size-reads
 use Rattle.words.proofs.word.Reads as word-reads
 
 abbrev Inv-loop : tie.InvT-loop
-Inv-loop words base r first starts n bound₀ p₀ j₀ bound p j = (n ≡ many words r) × (j ≤ n) × (p ≡ placeOf words r j) × (has bound ≡ bound? (ruleOf words r) j) × (length (bound .known) ≡ 32) × Passed words r j
+Inv-loop words r first starts n bound₀ p₀ j₀ bound p j = (n ≡ many words r) × (j ≤ n) × (p ≡ placeOf words r j) × (has bound ≡ bound? (ruleOf words r) j) × (length (bound .known) ≡ 32) × Passed words r j
 
 abbrev μ-loop : tie.MeasureT-loop
-μ-loop words base r first starts n bound₀ p₀ j₀ bound p j = n - j
+μ-loop words r first starts n bound₀ p₀ j₀ bound p j = n - j
 
 add-first-of : tie.Need-add-first-of Inv-loop μ-loop
 add-first-of c =
-    let a = c .before .args in
-    let q = c .before .pre in
-    omega (arith, q .1, rule-entry (now (a .words)) (q .0) (a .r) (q .2))
+    let a = c .before .before .args in
+    let q = c .before .before .pre in
+    omega (arith, first-rule-is (q .1) (c .first-rule .ensures), rule-entry (now (a .words)) (q .0) (a .r) (q .2))
 
 first-of-requires : tie.Need-first-of-requires Inv-loop μ-loop
 first-of-requires c κs =
-    let a = c .before .args in
-    let q = c .before .pre in
-    omega (arith, q .1, rule-entry (now (a .words)) (q .0) (a .r) (q .2))
+    let a = c .before .before .args in
+    let q = c .before .before .pre in
+    omega (arith, first-rule-is (q .1) (c .first-rule .ensures), rule-entry (now (a .words)) (q .0) (a .r) (q .2))
 
 loop-holds : tie.Need-loop-holds Inv-loop μ-loop
 loop-holds c =
     let first-of = c .before .before .before .before .before .first-of in
     let word = c .before .before .before .before .word in
-    let a = c .before .before .before .before .before .before .before .args in
-    let q = c .before .before .before .before .before .before .before .pre in
+    let a = c .before .before .before .before .before .before .before .before .args in
+    let q = c .before .before .before .before .before .before .before .before .pre in
     let w = now (a .words) in
     let h = q .0 in
     let r = a .r in
     let l = q .2 in
-    let f : first-of .result ≡ ruleFirst w r = first-of .ensures .0 ∙ ap (λ (b : ℕ). firstOf w (b + r)) (q .1) in
+    let f : first-of .result ≡ ruleFirst w r = first-of .ensures .0 ∙ ap (λ (b : ℕ). firstOf w (b + r)) (first-rule-is (q .1) (c .before .before .before .before .before .before .first-rule .ensures)) in
     (c .before .size2 .ensures .0 ∙ c .before .before .word2 .ensures ∙ ap (λ (x : ℕ). getD w (x + 1) 0) f, search needs, ap (λ (x : ℕ). x + 2) f, rw (c .first .ensures, c .before .before .before .size .ensures .0, word .ensures, f) (bound-start w r h l), rw (c .first .ensures) (length-first _), λ k m. absurd (omega arith))
 
 instr-at-requires : tie.Need-instr-at-requires Inv-loop μ-loop
 instr-at-requires c κs =
-    let a = c .before .before .before .before .before .before .before .before .before .args in
+    let a = c .before .before .before .before .before .before .before .before .before .before .args in
     let l = c .before .loop in
-    let q = c .before .before .before .before .before .before .before .before .before .pre in
+    let q = c .before .before .before .before .before .before .before .before .before .before .pre in
     let x : At (now (a .words)) (a .r) (l .j) (l .p) (instrAt (now (a .words)) (l .p)) = record { readable = q .0; rule = q .2; below = omega (arith, l .inv .0, c .loop-test .taken); place = l .inv .2; is = refl } in
     small-here x
 
 -- what is known of the instruction, from where it is read on
-here : (c : lts.After-instr-at (first-of-reads.Asked, first-of-reads.Learnt, word-reads.Asked, word-reads.Learnt, size-reads.Asked, size-reads.Learnt, first-reads.Asked, first-reads.Learnt, instr-at-reads.Asked, instr-at-reads.Learnt, check-instr-reads.Asked, check-instr-reads.Learnt, is-refusal-reads.Asked, is-refusal-reads.Learnt, bind-dst-reads.Asked, bind-dst-reads.Learnt, next-reads.Asked, next-reads.Learnt) reads.Pre reads.Post Inv-loop μ-loop) → At (now (c .before .before .before .before .before .before .before .before .before .before .args .words)) (c .before .before .before .before .before .before .before .before .before .before .args .r) (c .before .before .loop .j) (c .before .before .loop .p) (c .instr-at .result)
+here : (c : lts.After-instr-at (first-rule-reads.Asked, first-rule-reads.Learnt, first-of-reads.Asked, first-of-reads.Learnt, word-reads.Asked, word-reads.Learnt, size-reads.Asked, size-reads.Learnt, first-reads.Asked, first-reads.Learnt, instr-at-reads.Asked, instr-at-reads.Learnt, check-instr-reads.Asked, check-instr-reads.Learnt, is-refusal-reads.Asked, is-refusal-reads.Learnt, bind-dst-reads.Asked, bind-dst-reads.Learnt, next-reads.Asked, next-reads.Learnt) reads.Pre reads.Post Inv-loop μ-loop) → At (now (c .before .before .before .before .before .before .before .before .before .before .before .args .words)) (c .before .before .before .before .before .before .before .before .before .before .before .args .r) (c .before .before .loop .j) (c .before .before .loop .p) (c .instr-at .result)
 here c =
     let l = c .before .before .loop in
-    let q = c .before .before .before .before .before .before .before .before .before .before .pre in
+    let q = c .before .before .before .before .before .before .before .before .before .before .before .pre in
     record { readable = q .0; rule = q .2; below = omega (arith, l .inv .0, c .before .loop-test .taken); place = l .inv .2; is = c .instr-at .ensures }
 
 check-instr-requires : tie.Need-check-instr-requires Inv-loop μ-loop
 check-instr-requires c κs =
-    let pre = c .before .before .before .before .before .before .before .before .before .before .pre in
+    let pre = c .before .before .before .before .before .before .before .before .before .before .before .pre in
     (pre .0, stands-here (here c))
 
 returns : tie.Need-returns Inv-loop μ-loop
@@ -88,7 +90,7 @@ returns c =
 
 bind-dst-requires : tie.Need-bind-dst-requires Inv-loop μ-loop
 bind-dst-requires c κs =
-    let a = c .before .before .before .before .before .before .before .before .before .before .before .before .before .args in
+    let a = c .before .before .before .before .before .before .before .before .before .before .before .before .before .before .args in
     binds-variable (now (a .words)) (c .before .before .before .instr-at .result) (stands-here (here (c .before .before .before)))
 
 next-requires : tie.Need-next-requires Inv-loop μ-loop
@@ -111,7 +113,7 @@ loop-again c =
 
 returns-2 : tie.Need-returns-2 Inv-loop μ-loop
 returns-2 c =
-    let a2 = c .before .before .before .before .before .before .before .before .before .args in
+    let a2 = c .before .before .before .before .before .before .before .before .before .before .args in
     let w = now (a2 .words) in
     let r = a2 .r in
     let a = c .before .loop in
@@ -124,6 +126,7 @@ check-rule-spec =
     (tie.spec
     Inv-loop
     μ-loop
+    (λ c κs. search needs)
     add-first-of
     first-of-requires
     (λ c κs. search needs)

@@ -4,53 +4,46 @@ use mathlib.Core.Path.{_≡_, sym, _∙_}
 use native.Mathlib.Omega.{arith}
 use borrow.Author.Count.{below-more}
 use denote.Ref.{now}
-use Rattle.model.specs.Book.Contents.{firstRule, ruleCount}
+use Rattle.model.specs.Book.Contents.{ruleCount}
 use Rattle.model.specs.Outcome.{ruleRefusal}
-use Rattle.model.specs.Laws.Book.{few-entries}
 use Rattle.rules.specs.RuleLaws.{not-refused, rules-stop, rules-end}
 use borrow.Author.Needs.{needs}
 use Rattle.rules.proofs.check_rules.Statement.{statement}
 use Rattle.rules.proofs.check_rules.Tie as tie
 
 abbrev Inv-loop : tie.InvT-loop
-Inv-loop words base n r₀ r = (base ≡ firstRule words) × (n ≡ ruleCount words) × (r ≤ n) × ((k : ℕ) → k < r → ruleRefusal words k ≡ none)
+Inv-loop words contents n r₀ r = (n ≡ ruleCount words) × (r ≤ n) × ((k : ℕ) → k < r → ruleRefusal words k ≡ none)
 
 abbrev μ-loop : tie.MeasureT-loop
-μ-loop words base n r₀ r = n - r
-
-sizes-of-requires : tie.Need-sizes-of-requires Inv-loop μ-loop
-sizes-of-requires c κs = few-entries (now (c .before .args .words)) (c .before .pre)
+μ-loop words contents n r₀ r = n - r
 
 loop-holds : tie.Need-loop-holds Inv-loop μ-loop
-loop-holds c =
-    let z = c .before .before .before .sizes-of .ensures in
-    (omega (arith, c .before .before .size .ensures .0, c .before .size2 .ensures .0, z .tables, z .counters), c .size3 .ensures .0 ∙ z .rules, search needs, λ k m. absurd (omega arith))
+loop-holds c = (c .rule-count .ensures ∙ c .before .before .pre .1 .rules, search needs, λ k m. absurd (omega arith))
 
 check-rule-requires : tie.Need-check-rule-requires Inv-loop μ-loop
 check-rule-requires c κs =
-    let pre = c .before .before .before .before .before .before .before .pre in
-    let a = c .before .loop in
-    (pre, a .inv .0, omega (arith, a .inv .1, c .loop-test .taken))
+    let pre = c .before .before .before .before .pre in
+    (pre .0, pre .1, omega (arith, c .before .loop .inv .0, c .loop-test .taken))
 
 returns : tie.Need-returns Inv-loop μ-loop
 returns c =
-    let a2 = c .before .before .before .before .before .before .before .before .before .before .args in
+    let a2 = c .before .before .before .before .before .before .before .args in
     let check-rule = c .before .before .check-rule in
     let a = c .before .before .before .before .loop in
-    rules-stop (now (a2 .words)) (a .r) (check-rule .result) (omega (arith, a .inv .1, c .before .before .before .loop-test .taken)) (a .inv .3) (sym (c .before .is-refusal .ensures) ∙ c .if1 .taken) (check-rule .ensures)
+    rules-stop (now (a2 .words)) (a .r) (check-rule .result) (omega (arith, a .inv .0, c .before .before .before .loop-test .taken)) (a .inv .2) (sym (c .before .is-refusal .ensures) ∙ c .if1 .taken) (check-rule .ensures)
 
 loop-again : tie.Need-loop-again Inv-loop μ-loop
 loop-again c =
     let check-rule = c .before .before .check-rule in
     let a = c .before .before .before .before .loop in
-    (a .inv .0, a .inv .1, search needs, below-more _ _ (a .inv .3) (sym (check-rule .ensures) ∙ not-refused (check-rule .result) (sym (c .before .is-refusal .ensures) ∙ c .if1 .left)))
+    (a .inv .0, search needs, below-more _ _ (a .inv .2) (sym (check-rule .ensures) ∙ not-refused (check-rule .result) (sym (c .before .is-refusal .ensures) ∙ c .if1 .left)))
 
 returns-2 : tie.Need-returns-2 Inv-loop μ-loop
 returns-2 c =
-    let a2 = c .before .before .before .before .before .before .before .args in
+    let a2 = c .before .before .before .before .args in
     let a = c .before .loop in
-    let e : a .r ≡ ruleCount (now (a2 .words)) = omega (arith, a .inv .1, a .inv .2, c .loop-test .left) in
-    rules-end (now (a2 .words)) (rw e at (a .inv .3))
+    let e : a .r ≡ ruleCount (now (a2 .words)) = omega (arith, a .inv .0, a .inv .1, c .loop-test .left) in
+    rules-end (now (a2 .words)) (rw e at (a .inv .2))
 
 pub check-rules-spec : {M : Type 1} → statement M
 check-rules-spec =
@@ -58,10 +51,6 @@ check-rules-spec =
     (tie.spec
     Inv-loop
     μ-loop
-    sizes-of-requires
-    (λ c κs. search needs)
-    (λ c κs. search needs)
-    (λ c. search needs)
     (λ c κs. search needs)
     loop-holds
     check-rule-requires

@@ -2,6 +2,7 @@ use mathlib.Core.Path.{sym}
 use native.Mathlib.Omega.{arith}
 use denote.Ref.{now}
 use Rattle.model.specs.Laws.Book.{rule-entry}
+use Rattle.contents.specs.ContentsLaws.{first-rule-is}
 use Rattle.rules.specs.StepLaws.{batch-test}
 use borrow.Author.Needs.{needs}
 use Rattle.rules.proofs.fit.batch_fits.Statement.{statement}
@@ -9,23 +10,23 @@ use Rattle.rules.proofs.fit.batch_fits.Tie as tie
 
 add-first-of : tie.Need-add-first-of
 add-first-of c =
-    let a = c .before .before .before .before .before .args in
-    let q = c .before .before .before .before .before .pre in
-    omega (arith, q .1, c .before .before .size .ensures .0, c .before .before .before .word .ensures, rule-entry (now (a .words)) (q .0) _ (q .3))
+    let a = c .before .before .before .before .before .before .args in
+    let q = c .before .before .before .before .before .before .pre in
+    omega (arith, first-rule-is (q .1) (c .first-rule .ensures), c .before .before .before .size .ensures .0, c .before .before .before .before .word .ensures, rule-entry (now (a .words)) (q .0) _ (q .3))
 
 first-of-requires : tie.Need-first-of-requires
 first-of-requires c κs =
-    let a = c .before .before .before .before .before .args in
-    let q = c .before .before .before .before .before .pre in
-    omega (arith, q .1, c .before .before .size .ensures .0, c .before .before .before .word .ensures, rule-entry (now (a .words)) (q .0) _ (q .3))
+    let a = c .before .before .before .before .before .before .args in
+    let q = c .before .before .before .before .before .before .pre in
+    omega (arith, first-rule-is (q .1) (c .first-rule .ensures), c .before .before .before .size .ensures .0, c .before .before .before .before .word .ensures, rule-entry (now (a .words)) (q .0) _ (q .3))
 
 returns : tie.Need-returns
 returns c =
-    let word = c .before .before .before .before .before .word in
-    let size = c .before .before .before .before .size in
-    let a = c .before .before .before .before .before .before .before .args in
-    let q = c .before .before .before .before .before .before .before .pre in
-    rw (c .word4 .ensures, c .before .first-of .ensures .0, q .1, size .ensures .0, word .ensures, c .before .before .before .word2 .ensures, c .before .before .word3 .ensures) (sym (batch-test (now (a .words)) (q .0) (a .at) (q .3)))
+    let word = c .before .before .before .before .before .before .word in
+    let size = c .before .before .before .before .before .size in
+    let a = c .before .before .before .before .before .before .before .before .args in
+    let q = c .before .before .before .before .before .before .before .before .pre in
+    rw (c .word4 .ensures, c .before .first-of .ensures .0, first-rule-is (q .1) (c .before .before .first-rule .ensures), size .ensures .0, word .ensures, c .before .before .before .before .word2 .ensures, c .before .before .before .word3 .ensures) (sym (batch-test (now (a .words)) (q .0) (a .at) (q .3)))
 
 pub batch-fits-spec : {M : Type 1} → statement M
 batch-fits-spec =
@@ -36,6 +37,7 @@ batch-fits-spec =
     (λ c. search needs)
     (λ c κs. search needs)
     (λ c. search needs)
+    (λ c κs. search needs)
     (λ c κs. search needs)
     add-first-of
     first-of-requires
