@@ -2,6 +2,7 @@
 mod lookup;
 
 use bindings::Bindings;
+use contents::Contents;
 use execution::Change;
 use execution::ExecutionState;
 use execution::Staging;
@@ -14,8 +15,10 @@ use mask::Mask;
 ghost use mathlib.Core.Path.{_≡_};
 ghost use Prim.Native.Nat.{_+_, _≤_, _<_};
 ghost use lib.ListN.{length, getD};
-ghost use Rattle.model.specs.Book.Contents.{firstOf, firstRule, ruleCount, tableCount};
+ghost use Rattle.model.specs.Book.Contents.{ruleCount, tableCount};
+ghost use Rattle.model.specs.Outcome.{ruleFirst};
 ghost use Rattle.model.specs.Laws.Book.{Readable};
+ghost use Rattle.contents.specs.Contents.{ContentsOf};
 ghost use Rattle.hash_index.specs.Book.{BookIndex};
 ghost use Rattle.bindings.specs.Bindings.{boundIn};
 ghost use Rattle.instr.specs.Instr.{instrAt};
@@ -321,26 +324,26 @@ fn run_next(
     batch
 }
 
-// The instructions of rule r, in order. The rules' first entry in the contents is `base`.
+// The instructions of rule r, in order.
 pub fn run_instrs(
     words: &[u32],
     chains: &[u32],
-    base: usize,
+    contents: Contents,
     r: usize,
     start: Batch,
     bindings: &mut [u32],
     log: &mut [u32],
     index: &mut [u32],
 ) -> Batch
-    requires { ⌜ Readable (now words) × BookIndex (now words) (tableCount (now words)) (now chains) × (base ≡ firstRule (now words))
+    requires { ⌜ Readable (now words) × BookIndex (now words) (tableCount (now words)) (now chains) × ContentsOf (now words) contents
         × (r < ruleCount (now words)) × Ready (start .state) (now log) (now index) × (length (now bindings) ≡ 8192) ⌝ }
     ensures is { λ b. ⌜ asRunning b (now (bindings .exit)) (now (log .exit)) (now (index .exit))
-        ≡ ranInstrs (now (words .entry)) (firstOf (now (words .entry)) (base + r))
-        (getD (now (words .entry)) (firstOf (now (words .entry)) (base + r) + 1) 0)
+        ≡ ranInstrs (now (words .entry)) (ruleFirst (now (words .entry)) r)
+        (getD (now (words .entry)) (ruleFirst (now (words .entry)) r + 1) 0)
         (asRunning start (now (bindings .entry)) (now (log .entry)) (now (index .entry))) ⌝ }
     ensures fits { λ b. ⌜ b .state .used ≤ length (now (log .entry)) ⌝ }
 {
-    let first = contents::first_of(words, base + r);
+    let first = contents::first_of(words, contents.first_rule() + r);
     let n = words::size(words::word(words, first + 1));
     let mut batch = start;
     let mut p = first + 2;
