@@ -3,6 +3,7 @@ use action::Batch;
 use args::Args;
 use bindings::Bindings;
 use bound_vars::Bound;
+use contents::Contents;
 use execution::ExecutionState;
 use ids::TableId;
 use mask::Mask;
@@ -12,8 +13,9 @@ use predicted_index::Sought;
 ghost use mathlib.Core.Path.{_≡_};
 ghost use Prim.Native.Nat.{_+_, _*_, _≤_, _<_};
 ghost use lib.ListN.{length};
-ghost use Rattle.model.specs.Book.Contents.{endOf, firstOf, firstRule, kindOf, tableCount};
+ghost use Rattle.model.specs.Book.Contents.{firstOf, kindOf, tableCount};
 ghost use Rattle.model.specs.Laws.Book.{Readable};
+ghost use Rattle.contents.specs.Contents.{ContentsOf};
 ghost use Rattle.hash_index.specs.Book.{BookIndex};
 ghost use Rattle.predict.specs.Predict.{Ready, asGotten};
 ghost use Rattle.action.specs.Run.{asRunning};
@@ -26,18 +28,18 @@ fn lane_count(v: u32, lanes: usize) -> usize
     if v == 0 { 1 } else { lanes }
 }
 
-// The batch of entry i: its own columns, all lanes live, and then its rule. The rules' first entry in the contents is `base`.
+// The batch of entry i: its own columns, all lanes live, and then its rule.
 pub fn run_batch(
     words: &[u32],
     chains: &[u32],
-    base: usize,
+    contents: Contents,
     i: usize,
     state: ExecutionState,
     bindings: &mut [u32],
     log: &mut [u32],
     index: &mut [u32],
 ) -> Batch
-    requires { ⌜ Readable (now words) × BookIndex (now words) (tableCount (now words)) (now chains) × (base ≡ firstRule (now words))
+    requires { ⌜ Readable (now words) × BookIndex (now words) (tableCount (now words)) (now chains) × ContentsOf (now words) contents
         × IsStep (now words) i × (kindOf (now words) i ≡ 4) × Ready state (now log) (now index)
         × (length (now bindings) ≡ 8192) ⌝ }
     ensures is { λ r. ⌜ asRunning r (now (bindings .exit)) (now (log .exit)) (now (index .exit))
@@ -60,7 +62,7 @@ pub fn run_batch(
         mask: Mask::new(lanes),
         state,
     };
-    action::run_instrs(words, chains, base, rule, start, bindings, log, index)
+    action::run_instrs(words, chains, contents, rule, start, bindings, log, index)
 }
 
 // The key of the prediction of entry i.

@@ -74,7 +74,7 @@ returns c =
     let bound = first2 .ensures in
     let size = size3 .ensures .0 in
     let r = c .before .before .before .before .before .before .run-instrs in
-    (r .ensures .0 ∙ rw (columns, zero, mask, bound, size, lanes, q .2, rule, v, n, first), r .ensures .1)
+    (r .ensures .0 ∙ rw (columns, zero, mask, bound, size, lanes, rule, v, n, first), r .ensures .1)
 
 pub run-batch-spec : {M : Type 1} → statement M
 run-batch-spec =
