@@ -71,9 +71,12 @@ module _ (w : List ℕ) where
   abbrev pub ranStep : ℕ → Ran → Ran
   ranStep i a = cond (eqb (kindOf w i) 4) (batchStep i a) (predictionStep i a)
 
-  -- the next step, if the run goes on
+  -- the entry of the next step, and that step, if the run goes on
+  abbrev pub nextEntry : Progress → ℕ
+  nextEntry p = firstStep w + p .done
+
   unfoldable pub ranNext : Ran → Ran
-  ranNext a = when (isGoing (a .progress .state)) (ranStep (firstStep w + a .progress .done)) a
+  ranNext a = when (isGoing (a .progress .state)) (ranStep (nextEntry (a .progress))) a
 
   unfoldable pub ranSteps : ℕ → Ran → Ran
   ranSteps n a = iter (λ _. ranNext) n a

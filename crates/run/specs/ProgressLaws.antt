@@ -1,18 +1,21 @@
--- How many lanes a batch keeps, how many words a prediction's row has at most, and what a step leaves where it answered and where it stopped.
-use Prim.Native.Nat.{ℕ, _+_, _≤_}
-use mathlib.Core.Path.{_≡_, refl, sym, subst, _∙_}
+-- The entry of the next step, how many lanes a batch keeps, how many words a prediction's row has at most, and what a step leaves where it answered and where it stopped.
+use Prim.Native.Nat.{ℕ, _+_, _<_, _≤_}
+use mathlib.Core.Path.{_≡_, refl, sym, ap, subst, _∙_}
 use mathlib.Core.Bool.{true, false, _&&_}
 use mathlib.Core.Logic.{_⊎_}
 use mathlib.Core.List.{List}
 use native.Mathlib.Omega.{arith}
 use lib.ListN.{length, getD}
-use Rattle.model.specs.Book.Contents.{firstOf, firstStep, kindOf}
+use Rattle.model.specs.Book.Contents.{firstOf, firstStep, kindOf, stepCount}
 use Rattle.model.specs.Book.Decode.{instrPlace}
 use Rattle.model.specs.Laws.Book.{Readable}
 use Rattle.model.specs.Laws.Iter.{iter-keeps}
 use Rattle.model.specs.Laws.Kinds.{table-read, step-kind}
 use Rattle.model.specs.Laws.Logic.{either, when-ind}
 use Rattle.model.specs.Machine.Steps.{anyLive}
+use Rattle.contents.specs.declared.Contents.{Contents}
+use Rattle.contents.specs.Contents.{ContentsOf}
+use Rattle.contents.specs.ContentsLaws.{first-step-is}
 use Rattle.predicted_index.specs.Home.{homeOf}
 use Rattle.predicted_index.specs.RowLaws.{row-short}
 use Rattle.instr.specs.Instr.{instrAt}
@@ -25,7 +28,19 @@ use Rattle.step.specs.Steps.{IsStep, laneCount, startBatch, ruleOf, ranBatch, r
 use Rattle.step.specs.StepsLaws.{lane-count-most, batch-facts, prediction-facts}
 use Rattle.step_bodies.specs.Steps.{placed}
 use Rattle.run.specs.declared.Progress.{Progress}
-use Rattle.run.specs.Progress.{Ran, halted, told, bodyOf, batchTold, rowBody, rowTold, batchStep, predictionStep, ranNext}
+use Rattle.run.specs.Progress.{Ran, halted, told, bodyOf, batchTold, rowBody, rowTold, nextEntry, batchStep, predictionStep, ranNext}
+
+-- ## The entry of the next step, by what `first_step` answers
+
+module _ {w : List ℕ} {c : Contents} (h : ContentsOf w c) {first : ℕ} (e : first ≡ c .tables + c .counters + c .rules) (k : ℕ) where
+  pub entry-here : first + k ≡ firstStep w + k
+  entry-here = ap (λ (f : ℕ). f + k) (first-step-is h e)
+
+  pub step-here : k < stepCount w → IsStep w (first + k)
+  step-here l = record { number = k; below = l; entry = entry-here }
+
+  pub kind-here : {n : ℕ} → kindOf w (firstStep w + k) ≡ n → kindOf w (first + k) ≡ n
+  kind-here q = ap (kindOf w) entry-here ∙ q
 
 -- ## The lanes of a batch
 
@@ -85,14 +100,17 @@ module _ (w : List ℕ) (at : ℕ) (g : Gotten) (a : Ran) where
 -- ## The next step
 
 module _ (w : List ℕ) (a : Ran) where
-  module _ (i : ℕ) (g : isGoing (a .progress .state) ≡ true) (e : i ≡ firstStep w + a .progress .done) where
+  module _ (g : isGoing (a .progress .state) ≡ true) where
+    abbrev i : ℕ
+    i = nextEntry w (a .progress)
+
     pub next-batch : kindOf w i ≡ 4 → batchStep w i a ≡ ranNext w a
     unfolding ranNext
-    next-batch k = rw (g, ← e, k)
+    next-batch k = rw (g, k)
 
     pub next-prediction : kindOf w i ≡ 5 → predictionStep w i a ≡ ranNext w a
     unfolding ranNext
-    next-prediction k = rw (g, ← e, k)
+    next-prediction k = rw (g, k)
 
   pub next-stopped : isGoing (a .progress .state) ≡ false → a ≡ ranNext w a
   unfolding ranNext

@@ -1,14 +1,15 @@
 // The steps of a book, one after the other. Each step's body goes to the front of the answer's words, past those of the steps before it.
+use contents::Contents;
 use execution::ExecutionState;
 ghost use mathlib.Core.Path.{_≡_};
 ghost use Prim.Native.Nat.{_+_, _-_, _≤_, _<_};
 ghost use lib.ListN.{length};
-ghost use Rattle.model.specs.Book.Contents.{firstOf, firstRule, firstStep, kindOf, stepCount, tableCount};
+ghost use Rattle.model.specs.Book.Contents.{kindOf, stepCount, tableCount};
 ghost use Rattle.model.specs.Laws.Book.{Readable};
+ghost use Rattle.contents.specs.Contents.{ContentsOf};
 ghost use Rattle.hash_index.specs.Book.{rowsBefore, BookIndex};
 ghost use Rattle.predict.specs.Predict.{Ready};
-ghost use Rattle.step.specs.Steps.{IsStep};
-ghost use Rattle.run.specs.Progress.{Early, advanced, halted, batchStep, predictionStep, ranNext, ranSteps, asRan};
+ghost use Rattle.run.specs.Progress.{Early, nextEntry, advanced, halted, batchStep, predictionStep, ranNext, ranSteps, asRan};
 
 // What the run keeps, how many steps have answered, how many words their bodies have in all, and each.
 pub struct Progress {
@@ -48,28 +49,28 @@ fn halt(p: Progress, state: ExecutionState) -> Progress
     }
 }
 
-// The batch of entry i, and its body.
+// The next step, a batch, and its body.
 fn batch_step(
     words: &[u32],
     chains: &[u32],
-    base: usize,
-    i: usize,
+    contents: Contents,
     p: Progress,
     bindings: &mut [u32],
     log: &mut [u32],
     index: &mut [u32],
     answer: &mut [u32],
 ) -> Progress
-    requires { ⌜ Readable (now words) × BookIndex (now words) (tableCount (now words)) (now chains) × (base ≡ firstRule (now words))
-        × IsStep (now words) i × (kindOf (now words) i ≡ 4) × Early p × Ready (p .state) (now log) (now index)
-        × (length (now bindings) ≡ 8192) ⌝ }
+    requires { ⌜ Readable (now words) × BookIndex (now words) (tableCount (now words)) (now chains) × ContentsOf (now words) contents
+        × (p .done < stepCount (now words)) × (kindOf (now words) (nextEntry (now words) p) ≡ 4) × Early p
+        × Ready (p .state) (now log) (now index) × (length (now bindings) ≡ 8192) ⌝ }
     ensures is { λ r. ⌜ asRan r (now (bindings .exit)) (now (log .exit)) (now (index .exit)) (now (answer .exit))
-        ≡ batchStep (now (words .entry)) i
+        ≡ batchStep (now (words .entry)) (nextEntry (now (words .entry)) p)
         (asRan p (now (bindings .entry)) (now (log .entry)) (now (index .entry)) (now (answer .entry))) ⌝ }
     ensures fits { λ r. ⌜ (r .state .used ≤ length (now (log .entry))) × (r .done ≤ p .done + 1) × (r .at ≤ p .at + 8483) ⌝ }
 {
+    let i = contents.first_step() + p.done;
     let before = p.state;
-    let batch = step::run_batch(words, chains, base, i, before, bindings, log, index);
+    let batch = step::run_batch(words, chains, contents, i, before, bindings, log, index);
     let state = batch.state;
     if state.going() {
         let end = step_bodies::write_batch(bindings, batch.bindings, batch.mask, p.at, answer);
@@ -78,24 +79,26 @@ fn batch_step(
     halt(p, state)
 }
 
-// The prediction of entry i, and its body.
+// The next step, a prediction, and its body.
 fn prediction_step(
     words: &[u32],
     chains: &[u32],
-    i: usize,
+    contents: Contents,
     p: Progress,
     bindings: &[u32],
     log: &mut [u32],
     index: &mut [u32],
     answer: &mut [u32],
 ) -> Progress
-    requires { ⌜ Readable (now words) × BookIndex (now words) (tableCount (now words)) (now chains) × IsStep (now words) i
-        × (kindOf (now words) i ≡ 5) × Early p × Ready (p .state) (now log) (now index) ⌝ }
+    requires { ⌜ Readable (now words) × BookIndex (now words) (tableCount (now words)) (now chains) × ContentsOf (now words) contents
+        × (p .done < stepCount (now words)) × (kindOf (now words) (nextEntry (now words) p) ≡ 5) × Early p
+        × Ready (p .state) (now log) (now index) ⌝ }
     ensures is { λ r. ⌜ asRan r (now (bindings .entry)) (now (log .exit)) (now (index .exit)) (now (answer .exit))
-        ≡ predictionStep (now (words .entry)) i
+        ≡ predictionStep (now (words .entry)) (nextEntry (now (words .entry)) p)
         (asRan p (now (bindings .entry)) (now (log .entry)) (now (index .entry)) (now (answer .entry))) ⌝ }
     ensures fits { λ r. ⌜ (r .state .used ≤ length (now (log .entry))) × (r .done ≤ p .done + 1) × (r .at ≤ p .at + 8483) ⌝ }
 {
+    let i = contents.first_step() + p.done;
     let before = p.state;
     let got = step::run_prediction(words, chains, i, before, bindings, log, index);
     let after = got.state;
@@ -107,21 +110,19 @@ fn prediction_step(
     halt(p, after)
 }
 
-// The next step, if the run goes on. The rules' first entry in the contents is `base`, the steps' first is `first`.
+// The next step, if the run goes on.
 fn run_next(
     words: &[u32],
     chains: &[u32],
-    base: usize,
-    first: usize,
+    contents: Contents,
     p: Progress,
     bindings: &mut [u32],
     log: &mut [u32],
     index: &mut [u32],
     answer: &mut [u32],
 ) -> Progress
-    requires { ⌜ Readable (now words) × BookIndex (now words) (tableCount (now words)) (now chains) × (base ≡ firstRule (now words))
-        × (first ≡ firstStep (now words)) × (p .done < stepCount (now words)) × Early p
-        × Ready (p .state) (now log) (now index) × (length (now bindings) ≡ 8192) ⌝ }
+    requires { ⌜ Readable (now words) × BookIndex (now words) (tableCount (now words)) (now chains) × ContentsOf (now words) contents
+        × (p .done < stepCount (now words)) × Early p × Ready (p .state) (now log) (now index) × (length (now bindings) ≡ 8192) ⌝ }
     ensures is { λ r. ⌜ asRan r (now (bindings .exit)) (now (log .exit)) (now (index .exit)) (now (answer .exit))
         ≡ ranNext (now (words .entry))
         (asRan p (now (bindings .entry)) (now (log .entry)) (now (index .entry)) (now (answer .entry))) ⌝ }
@@ -129,11 +130,10 @@ fn run_next(
 {
     let state = p.state;
     if state.going() {
-        let i = first + p.done;
-        if contents::kind_of(words, i) == 4 {
-            return batch_step(words, chains, base, i, p, bindings, log, index, answer);
+        if contents::kind_of(words, contents.first_step() + p.done) == 4 {
+            return batch_step(words, chains, contents, p, bindings, log, index, answer);
         }
-        return prediction_step(words, chains, i, p, bindings, log, index, answer);
+        return prediction_step(words, chains, contents, p, bindings, log, index, answer);
     }
     p
 }
@@ -142,27 +142,25 @@ fn run_next(
 fn run_by(
     words: &[u32],
     chains: &[u32],
-    base: usize,
-    first: usize,
-    steps: usize,
+    contents: Contents,
     start: Progress,
     bindings: &mut [u32],
     log: &mut [u32],
     index: &mut [u32],
     answer: &mut [u32],
 ) -> Progress
-    requires { ⌜ Readable (now words) × BookIndex (now words) (tableCount (now words)) (now chains) × (base ≡ firstRule (now words))
-        × (first ≡ firstStep (now words)) × (steps ≡ stepCount (now words)) × (start .done ≡ 0) × (start .at ≡ 0)
-        × Ready (start .state) (now log) (now index) × (length (now bindings) ≡ 8192) ⌝ }
+    requires { ⌜ Readable (now words) × BookIndex (now words) (tableCount (now words)) (now chains) × ContentsOf (now words) contents
+        × (start .done ≡ 0) × (start .at ≡ 0) × Ready (start .state) (now log) (now index) × (length (now bindings) ≡ 8192) ⌝ }
     ensures is { λ r. ⌜ asRan r (now (bindings .exit)) (now (log .exit)) (now (index .exit)) (now (answer .exit))
-        ≡ ranSteps (now (words .entry)) steps
+        ≡ ranSteps (now (words .entry)) (stepCount (now (words .entry)))
         (asRan start (now (bindings .entry)) (now (log .entry)) (now (index .entry)) (now (answer .entry))) ⌝ }
     ensures fits { λ r. ⌜ (r .state .used ≤ length (now (log .entry))) × (r .done ≤ 64) × (r .at ≤ 1048576) ⌝ }
 {
+    let steps = contents.step_count();
     let mut p = start;
     let mut k = 0;
     while k < steps {
-        p = run_next(words, chains, base, first, p, bindings, log, index, answer);
+        p = run_next(words, chains, contents, p, bindings, log, index, answer);
         k += 1;
     }
     p
@@ -171,32 +169,26 @@ fn run_by(
 // The same, by an index that is made for it.
 fn run_indexed(
     words: &[u32],
-    tables: usize,
-    base: usize,
-    first: usize,
-    steps: usize,
+    contents: Contents,
     start: Progress,
     bindings: &mut [u32],
     log: &mut [u32],
     index: &mut [u32],
     answer: &mut [u32],
 ) -> Progress
-    requires { ⌜ Readable (now words) × (tables ≡ tableCount (now words)) × (rowsBefore (now words) tables ≤ 16384)
-        × (base ≡ firstRule (now words)) × (first ≡ firstStep (now words)) × (steps ≡ stepCount (now words))
+    requires { ⌜ Readable (now words) × ContentsOf (now words) contents × (rowsBefore (now words) (tableCount (now words)) ≤ 16384)
         × (start .done ≡ 0) × (start .at ≡ 0) × Ready (start .state) (now log) (now index) × (length (now bindings) ≡ 8192) ⌝ }
     ensures is { λ r. ⌜ asRan r (now (bindings .exit)) (now (log .exit)) (now (index .exit)) (now (answer .exit))
-        ≡ ranSteps (now (words .entry)) steps
+        ≡ ranSteps (now (words .entry)) (stepCount (now (words .entry)))
         (asRan start (now (bindings .entry)) (now (log .entry)) (now (index .entry)) (now (answer .entry))) ⌝ }
     ensures fits { λ r. ⌜ (r .state .used ≤ length (now (log .entry))) × (r .done ≤ 64) × (r .at ≤ 1048576) ⌝ }
 {
     let mut chains = [0u32; 18432];
-    hash_index::build_all(words, tables, &mut chains);
+    hash_index::build_all(words, contents.table_count(), &mut chains);
     run_by(
         words,
         &chains,
-        base,
-        first,
-        steps,
+        contents,
         start,
         bindings,
         log,
@@ -208,44 +200,27 @@ fn run_indexed(
 // The same, by an index or by none.
 pub fn run_steps(
     words: &[u32],
-    tables: usize,
-    base: usize,
-    first: usize,
-    steps: usize,
+    contents: Contents,
     start: Progress,
     bindings: &mut [u32],
     log: &mut [u32],
     index: &mut [u32],
     answer: &mut [u32],
 ) -> Progress
-    requires { ⌜ Readable (now words) × (tables ≡ tableCount (now words)) × (base ≡ firstRule (now words))
-        × (first ≡ firstStep (now words)) × (steps ≡ stepCount (now words)) × (start .done ≡ 0) × (start .at ≡ 0)
+    requires { ⌜ Readable (now words) × ContentsOf (now words) contents × (start .done ≡ 0) × (start .at ≡ 0)
         × Ready (start .state) (now log) (now index) × (length (now bindings) ≡ 8192) ⌝ }
     ensures is { λ r. ⌜ asRan r (now (bindings .exit)) (now (log .exit)) (now (index .exit)) (now (answer .exit))
-        ≡ ranSteps (now (words .entry)) steps
+        ≡ ranSteps (now (words .entry)) (stepCount (now (words .entry)))
         (asRan start (now (bindings .entry)) (now (log .entry)) (now (index .entry)) (now (answer .entry))) ⌝ }
     ensures fits { λ r. ⌜ (r .state .used ≤ length (now (log .entry))) × (r .done ≤ 64) × (r .at ≤ 1048576) ⌝ }
 {
-    if hash_index::serves(hash_index::rows_before(words, tables)) {
-        return run_indexed(
-            words,
-            tables,
-            base,
-            first,
-            steps,
-            start,
-            bindings,
-            log,
-            index,
-            answer,
-        );
+    if hash_index::serves(hash_index::rows_before(words, contents.table_count())) {
+        return run_indexed(words, contents, start, bindings, log, index, answer);
     }
     run_by(
         words,
         &words[..0],
-        base,
-        first,
-        steps,
+        contents,
         start,
         bindings,
         log,

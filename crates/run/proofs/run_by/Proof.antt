@@ -13,7 +13,7 @@ use Rattle.run.proofs.run_by.Statement.{statement}
 use Rattle.run.proofs.run_by.Tie as tie
 
 abbrev Inv-loop : tie.InvT-loop
-Inv-loop words chains base first steps bindings₀ log₀ index₀ answer₀ p₀ k₀ bindings log index answer p k =
+Inv-loop words chains contents bindings₀ log₀ index₀ answer₀ steps p₀ k₀ bindings log index answer p k =
     (k ≤ steps)
     × (length bindings ≡ length bindings₀)
     × (length log ≡ length log₀)
@@ -25,32 +25,32 @@ Inv-loop words chains base first steps bindings₀ log₀ index₀ answer₀ p�
     × (_≡_ {A = Ran} (record { progress = p; bindings = bindings; log = log; index = index; answer = answer }) (iter (λ _. ranNext words) k (record { progress = p₀; bindings = bindings₀; log = log₀; index = index₀; answer = answer₀ })))
 
 abbrev μ-loop : tie.MeasureT-loop
-μ-loop words chains base first steps bindings₀ log₀ index₀ answer₀ p₀ k₀ bindings log index answer p k = steps - k
+μ-loop words chains contents bindings₀ log₀ index₀ answer₀ steps p₀ k₀ bindings log index answer p k = steps - k
 
 loop-holds : tie.Need-loop-holds Inv-loop μ-loop
-loop-holds c = let q = c .before .before .before .before .before .before .pre in (search needs, refl, refl, refl, refl, q .7 .used, omega (arith, q .5), omega (arith, q .6), refl)
+loop-holds c = let q = c .before .before .before .before .before .before .before .pre in (search needs, refl, refl, refl, refl, q .5 .used, omega (arith, q .3), omega (arith, q .4), refl)
 
 run-next-requires : tie.Need-run-next-requires Inv-loop μ-loop
 run-next-requires c κs =
-    let a = c .before .before .before .before .before .before .before .before .before .before .before .before .args in
+    let a = c .before .before .before .before .before .before .before .before .before .before .before .before .before .args in
     let loop-test = c .before .before .before .before .loop-test in
-    let q = c .before .before .before .before .before .before .before .before .before .before .before .before .pre in
+    let q = c .before .before .before .before .before .before .before .before .before .before .before .before .before .pre in
     let l = c .before .before .before .before .before .loop in
-    let k : l .k < stepCount (now (a .words)) = omega (arith, loop-test .taken, q .4) in
+    let k : l .k < stepCount (now (a .words)) = omega (arith, loop-test .taken, c .before .before .before .before .before .before .step-count .ensures, q .2 .steps) in
     let few = few-steps (now (a .words)) (q .0) in
-    (q .0, q .1, q .2, q .3, omega (arith, l .inv .6), record { done = omega (arith, l .inv .6); at = omega (arith, l .inv .7) }, record { used = omega (arith, l .inv .5, l .inv .2); short = omega (arith, q .7 .short, l .inv .2); slots = l .inv .3 ∙ q .7 .slots }, l .inv .1 ∙ q .8)
+    (q .0, q .1, q .2, omega (arith, l .inv .6), record { done = omega (arith, l .inv .6); at = omega (arith, l .inv .7) }, record { used = omega (arith, l .inv .5, l .inv .2); short = omega (arith, q .5 .short, l .inv .2); slots = l .inv .3 ∙ q .5 .slots }, l .inv .1 ∙ q .6)
 
 add-k : tie.Need-add-k Inv-loop μ-loop
 add-k c =
-    let good = c .before .before .before .before .before .before .before .before .before .before .before .before .before .before .before .before .before .before .before .before .before .good in
-    let loop-test = c .before .before .before .before .before .before .before .before .before .before .before .before .before .loop-test in
-    omega (arith, loop-test .taken, good)
+    let a = c .before .before .before .before .before .before .before .before .before .before .before .before .before .before .before .before .before .before .before .before .before .before .args in
+    let q = c .before .before .before .before .before .before .before .before .before .before .before .before .before .before .before .before .before .before .before .before .before .before .pre in
+    omega (arith, c .before .before .before .before .before .before .before .before .before .before .before .before .before .loop-test .taken, c .before .before .before .before .before .before .before .before .before .before .before .before .before .before .before .step-count .ensures, q .2 .steps, few-steps (now (a .words)) (q .0))
 
 loop-again : tie.Need-loop-again Inv-loop μ-loop
 loop-again c =
     let l = c .before .before .before .before .before .before .before .before .before .before .before .before .before .before .loop in
     let r = c .before .before .before .before .before .before .before .before .run-next in
-    let k = r .kept .1 .1 .1 .1 .1 in (
+    let k = r .kept .1 .1 .1 .1 in (
       search needs,
       k .0 ∙ l .inv .1,
       k .1 .0 ∙ l .inv .2,
@@ -65,12 +65,12 @@ loop-again c =
 returns : tie.Need-returns Inv-loop μ-loop
 unfolding ranSteps
 returns c =
-    let a = c .before .before .before .before .before .before .before .before .args in
+    let a = c .before .before .before .before .before .before .before .before .before .args in
     let l = c .before .loop in
-    let q = c .before .before .before .before .before .before .before .before .pre in
-    let e : l .k ≡ a .steps = omega (arith, l .inv .0, c .loop-test .left) in
+    let q = c .before .before .before .before .before .before .before .before .before .pre in
+    let e : l .k ≡ stepCount (now (a .words)) = omega (arith, l .inv .0, c .loop-test .left, c .before .before .step-count .ensures, q .2 .steps) in
     let few = few-steps (now (a .words)) (q .0) in
-    (rw (← e) (l .inv .8), (l .inv .5, omega (arith, l .inv .6, q .4), omega (arith, l .inv .7, q .4)))
+    (rw (← e) (l .inv .8), (l .inv .5, omega (arith, l .inv .6), omega (arith, l .inv .7)))
 
 pub run-by-spec : {M : Type 1} → statement M
 run-by-spec =
@@ -78,6 +78,7 @@ run-by-spec =
     (tie.spec
     Inv-loop
     μ-loop
+    (λ c κs. search needs)
     loop-holds
     run-next-requires
     add-k
