@@ -25,16 +25,12 @@ pub fn shape_of(words: &[u32]) -> Shape
     requires { ⌜ book.count (now words) ≤ 128 ⌝ }
     ensures { λ r. ⌜ r ≡ shapeOf (now (words .entry)) ⌝ }
 {
-    let z = contents::sizes_of(words);
-    let tables = words::size(z.tables);
-    let counters = words::size(z.counters);
-    let rules = words::size(z.rules);
-    let steps = words::size(z.steps);
+    let c = contents::of(words);
     Shape {
-        tables,
-        counters,
-        steps,
-        first: tables + counters + rules,
+        tables: c.table_count(),
+        counters: c.counter_count(),
+        steps: c.step_count(),
+        first: c.first_step(),
     }
 }
 

@@ -18,6 +18,13 @@ pub enum Assembled {
     Over,
 }
 
+// The answer's bodies, how many words those of the steps have at the front, and whether the run has changed a table.
+struct Plan {
+    shape: Shape,
+    scratch: usize,
+    changed: bool,
+}
+
 // The step bodies go from the front to their place, and the rest around them.
 fn fill(
     words: &[u32],
@@ -25,26 +32,27 @@ fn fill(
     rows: &[u32],
     next: &[u32],
     lengths: &[u32],
-    scratch: usize,
-    changed: bool,
     log: &[u32],
-    z: Shape,
+    plan: Plan,
     answer: &mut [u32],
 )
-    requires { ⌜ (z ≡ shapeOf (now words)) × Small (now words) (now counts) (now lengths) (length (now log)) z
-        × (z .counters ≤ length (now next))
+    requires { ⌜ (plan .shape ≡ shapeOf (now words))
+        × Small (now words) (now counts) (now lengths) (length (now log)) (plan .shape)
+        × (plan .shape .counters ≤ length (now next))
         × Enough
-        (resultsOf (now words) (now counts) (now rows) (now next) (now lengths) (take scratch (now answer)) changed
-        (now log)) scratch (now answer)
+        (resultsOf (now words) (now counts) (now rows) (now next) (now lengths) (take (plan .scratch) (now answer))
+        (plan .changed) (now log)) (plan .scratch) (now answer)
         × (wholeLength
-        (resultsOf (now words) (now counts) (now rows) (now next) (now lengths) (take scratch (now answer)) changed
-        (now log))
+        (resultsOf (now words) (now counts) (now rows) (now next) (now lengths) (take (plan .scratch) (now answer))
+        (plan .changed) (now log))
         ≤ length (now answer)) ⌝ }
     ensures { λ _. ⌜ now (answer .exit) ≡ answered
         (resultsOf (now (words .entry)) (now (counts .entry)) (now (rows .entry))
-        (now (next .entry)) (now (lengths .entry)) (take scratch (now (answer .entry)))
-        changed (now (log .entry))) (length (now (answer .entry))) ⌝ }
+        (now (next .entry)) (now (lengths .entry)) (take (plan .scratch) (now (answer .entry)))
+        (plan .changed) (now (log .entry))) (length (now (answer .entry))) ⌝ }
 {
+    let z = plan.shape;
+    let scratch = plan.scratch;
     let used = log.len();
     let tables = z.tables;
     let counters = z.counters;
@@ -56,7 +64,7 @@ fn fill(
     entries::write_entries(words, counts, lengths, used, z, n, first, answer);
     let p = bodies::write_tables(words, counts, rows, tables, first, answer);
     put::write(&next[..counters], p, answer);
-    bodies::write_log(changed, log, first + before + scratch, answer);
+    bodies::write_log(plan.changed, log, first + before + scratch, answer);
 }
 
 // The book's words, the rows after the commit, what the run left, and the step bodies, of `scratch` words in all, at the front of the answer.
@@ -96,10 +104,12 @@ pub fn assemble(
         tables,
         &next,
         lengths,
-        scratch,
-        state.changed,
         &log[..used],
-        z,
+        Plan {
+            shape: z,
+            scratch,
+            changed: state.changed,
+        },
         answer,
     );
     Assembled::Words(total)

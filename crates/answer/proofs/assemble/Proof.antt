@@ -121,7 +121,7 @@ fill-requires c κs =
     (shape-of .ensures, small-part (before2), omega (arith, next-is (before), small-part (before2) .counters), pre .2, h)
 
 same-length : tie.Need-same-length
-same-length c = c .before .before .fill .kept .1 .1 .1 .1 .1 .1 .1 .1 .1 .0
+same-length c = c .before .before .fill .kept .1 .1 .1 .1 .1 .1 .1 .0
 
 returns-2 : tie.Need-returns-2
 unfolding assembled assembledLength
