@@ -1,6 +1,6 @@
 // The engine: a book of bytes is run to its end, or refused with a number and a place.
 use conclude::Outcome;
-use contents::Sizes;
+use contents::Contents;
 use counter::Counters;
 use execution::ExecutionState;
 use execution::Stop;
@@ -14,19 +14,19 @@ ghost use Rattle.model.specs.Book.Words.{bytesRefusal, wordsOf};
 ghost use Rattle.model.specs.Book.Read as read;
 ghost use Rattle.model.specs.Outcome.{Permitted, wordsRefusal};
 ghost use Rattle.model.specs.Laws.Book.{Readable};
-ghost use Rattle.contents.specs.Contents.{SizesOf};
+ghost use Rattle.contents.specs.Contents.{ContentsOf};
 ghost use Rattle.counter.specs.CounterLaws.{padded};
 ghost use Rattle.simulation.specs.Ends.{startProgress};
 ghost use Rattle.conclude.specs.End.{Concludes};
 ghost use Rattle.engine.specs.Engine.{lentOf, lengthsFit, Runnable, Decided, outcomeOf, AnswerLeft, keptAnswer};
 
 // The book's counters, 0 past the last.
-fn counters_of(words: &[u32], z: Sizes) -> Counters
-    requires { ⌜ Readable (now words) × SizesOf (now words) z ⌝ }
+fn counters_of(words: &[u32], contents: Contents) -> Counters
+    requires { ⌜ Readable (now words) × ContentsOf (now words) contents ⌝ }
     ensures { λ r. ⌜ r .next ≡ padded (read.counters (now (words .entry))) ⌝ }
 {
-    let tables = words::size(z.tables);
-    let n = words::size(z.counters);
+    let tables = contents.table_count();
+    let n = contents.counter_count();
     let mut next = [0u32; 16];
     let mut c = 0;
     while c < n {
@@ -37,11 +37,11 @@ fn counters_of(words: &[u32], z: Sizes) -> Counters
 }
 
 // A fresh execution state, before the first step.
-fn start(words: &[u32], z: Sizes) -> Progress
-    requires { ⌜ Readable (now words) × SizesOf (now words) z ⌝ }
+fn start(words: &[u32], contents: Contents) -> Progress
+    requires { ⌜ Readable (now words) × ContentsOf (now words) contents ⌝ }
     ensures { λ r. ⌜ r ≡ startProgress (now (words .entry)) ⌝ }
 {
-    let counters = counters_of(words, z);
+    let counters = counters_of(words, contents);
     let state = ExecutionState {
         used: 0,
         counters,
@@ -72,24 +72,17 @@ fn run_book(
         (lentOf (now (bindings .entry)) (now (index .entry)) (now (log .entry)) (now (tables .entry))
         (now (answer .entry))) r (now (answer .exit)) ⌝ }
 {
-    let z = contents::sizes_of(words);
-    let count = words::size(z.tables);
-    let base = count + words::size(z.counters);
-    let first = base + words::size(z.rules);
-    let steps = words::size(z.steps);
+    let contents = contents::of(words);
     let p = run::run_steps(
         words,
-        count,
-        base,
-        first,
-        steps,
-        start(words, z),
+        contents,
+        start(words, contents),
         bindings,
         log,
         index,
         answer,
     );
-    conclude::conclude(words, first, count, p, log, tables, answer)
+    conclude::conclude(words, contents, p, log, tables, answer)
 }
 
 // A book that refusal 1 passes, loaded into `words`: refusals 2 to 11, and then its run.

@@ -1,4 +1,4 @@
-use mathlib.Core.Path.{sym}
+use mathlib.Core.Path.{sym, _∙_}
 use native.Mathlib.Omega.{arith}
 use lib.Seq.{length-take-le}
 use denote.Ref.{now}
@@ -11,44 +11,46 @@ use Rattle.conclude.proofs.settle.Tie as tie
 
 slice-aggregate-commit : tie.Need-slice-aggregate-commit
 slice-aggregate-commit c =
-    let a = c .before .before .before .before .before .before .args in
-    let pre = c .before .before .before .before .before .before .pre in
+    let a = c .before .before .before .before .before .before .before .args in
+    let pre = c .before .before .before .before .before .before .before .pre in
     sym (length-take-le (a .p .state .used) (now (a .log)) (pre .3 .used))
 
 commit-requires : tie.Need-commit-requires
 commit-requires c κs =
-    let a = c .before .before .before .before .before .before .before .args in
-    let pre = c .before .before .before .before .before .before .before .pre in
-    (omega (arith, pre .1, few-tables (now (a .words)) (pre .0)), omega (arith, length-take-le (a .p .state .used) (now (a .log)) (pre .3 .used), pre .3 .short, pre .3 .used), omega (arith, pre .2), λ t l. ready-table (now (a .words)) (pre .0 .contents) (pre .0 .bodies) t (omega (arith, pre .1)))
+    let a = c .before .before .before .before .before .before .before .before .args in
+    let pre = c .before .before .before .before .before .before .before .before .pre in
+    let n = c .before .before .table-count .ensures ∙ pre .1 .tables in
+    (omega (arith, n, few-tables (now (a .words)) (pre .0)), omega (arith, length-take-le (a .p .state .used) (now (a .log)) (pre .3 .used), pre .3 .short, pre .3 .used), omega (arith, pre .2), λ t l. ready-table (now (a .words)) (pre .0 .contents) (pre .0 .bodies) t (omega (arith, n)))
 
 returns : tie.Need-returns
 returns c =
-    let a = c .before .before .before .before .before .before .before .before .before .before .before .args in
-    let pre = c .before .before .before .before .before .before .before .before .before .before .before .pre in
+    let a = c .before .before .before .before .before .before .before .before .before .before .before .before .args in
+    let pre = c .before .before .before .before .before .before .before .before .before .before .before .before .pre in
     let commit = c .before .before .before .commit in
-    settled-over (now (a .words)) (a .p) (now (a .log)) (now (a .tables)) (now (a .answer)) (a .count) (pre .1) (record { words = commit .last .1 .1 .1 .0; result = commit .result }) (commit .ensures) (c .if1 .taken)
+    settled-over (now (a .words)) (a .p) (now (a .log)) (now (a .tables)) (now (a .answer)) _ (c .before .before .before .before .before .before .table-count .ensures ∙ pre .1 .tables) (record { words = commit .last .1 .1 .1 .0; result = commit .result }) (commit .ensures) (c .if1 .taken)
 
 assemble-requires : tie.Need-assemble-requires
 assemble-requires c κs =
-    let pre = c .before .before .before .before .before .before .before .before .before .before .before .before .before .before .before .pre in
-    let a = c .before .before .before .before .before .before .before .before .before .before .before .before .before .before .before .args in
+    let pre = c .before .before .before .before .before .before .before .before .before .before .before .before .before .before .before .before .pre in
+    let a = c .before .before .before .before .before .before .before .before .before .before .before .before .before .before .before .before .args in
     let commit = c .before .before .before .before .before .before .before .commit in
     let if1 = c .before .before .before .before .if1 in
-    (pre .0, pre .3 .used, enough-here (now (a .words)) (a .p) (now (a .log)) (now (a .tables)) (now (a .answer)) (a .count) (pre .1) (record { words = commit .last .1 .1 .1 .0; result = commit .result }) (commit .ensures) (if1 .left) (pre .0) (pre .2) (commit .kept .1 .1 .1 .0) (pre .3))
+    (pre .0, pre .3 .used, enough-here (now (a .words)) (a .p) (now (a .log)) (now (a .tables)) (now (a .answer)) _ (c .before .before .before .before .before .before .before .before .before .before .table-count .ensures ∙ pre .1 .tables) (record { words = commit .last .1 .1 .1 .0; result = commit .result }) (commit .ensures) (if1 .left) (pre .0) (pre .2) (commit .kept .1 .1 .1 .0) (pre .3))
 
 returns-2 : tie.Need-returns-2
 returns-2 c =
-    let a = c .before .before .before .before .before .before .before .before .before .before .before .before .before .before .before .before .before .before .before .args in
-    let pre = c .before .before .before .before .before .before .before .before .before .before .before .before .before .before .before .before .before .before .before .pre in
+    let a = c .before .before .before .before .before .before .before .before .before .before .before .before .before .before .before .before .before .before .before .before .args in
+    let pre = c .before .before .before .before .before .before .before .before .before .before .before .before .before .before .before .before .before .before .before .before .pre in
     let commit = c .before .before .before .before .before .before .before .before .before .before .before .commit in
     let if1 = c .before .before .before .before .before .before .before .before .if1 in
     let assemble = c .before .before .before .assemble in
-    settled-answer (now (a .words)) (a .p) (now (a .log)) (now (a .tables)) (now (a .answer)) (a .count) (pre .1) (record { words = commit .last .1 .1 .1 .0; result = commit .result }) (commit .ensures) (if1 .left) (assemble .result) (c .by-length .result) (assemble .last .1 .1 .1 .1 .1 .1 .1 .0) (assemble .ensures .1) (c .by-length .ensures) (assemble .ensures .0)
+    settled-answer (now (a .words)) (a .p) (now (a .log)) (now (a .tables)) (now (a .answer)) _ (c .before .before .before .before .before .before .before .before .before .before .before .before .before .before .table-count .ensures ∙ pre .1 .tables) (record { words = commit .last .1 .1 .1 .0; result = commit .result }) (commit .ensures) (if1 .left) (assemble .result) (c .by-length .result) (assemble .last .1 .1 .1 .1 .1 .1 .1 .0) (assemble .ensures .1) (c .by-length .ensures) (assemble .ensures .0)
 
 pub settle-spec : {M : Type 1} → statement M
 settle-spec =
     tie.close
     (tie.spec
+    (λ c κs. search needs)
     slice-aggregate-commit
     commit-requires
     (λ c. search needs)
