@@ -73,12 +73,11 @@ module _ (book front : List ℕ) (is : front ≡ wordsOf book) (passed : bytesRe
 -- ## The run
 
 module _ (w : List ℕ) (h : Runnable w) (bindings index log answer : List ℕ) (short : length log ≤ 16384) (index-zero : index ≡ replicate 8192 0) (log-zero : log ≡ replicate (length log) 0) (answer-zero : answer ≡ replicate (length answer) 0)
-    (n : ℕ) (all : n ≡ stepCount w) (p : Progress) (start : p ≡ startProgress w)
-    (a : Ran) (is : a ≡ ranSteps w n (record { progress = p; bindings = bindings; log = log; index = index; answer = answer })) (log-size : length (a .log) ≡ length log) where
+    (p : Progress) (start : p ≡ startProgress w)
+    (a : Ran) (is : a ≡ ranSteps w (stepCount w) (record { progress = p; bindings = bindings; log = log; index = index; answer = answer })) (log-size : length (a .log) ≡ length log) where
   -- all steps, from a fresh execution state and zeroed words
   from-start : a ≡ ranSteps w (stepCount w) (record { progress = startProgress w; bindings = bindings; log = replicate (length log) 0; index = replicate 8192 0; answer = replicate (length answer) 0 })
   from-start = is
-      ∙ ap (λ (n : ℕ). ranSteps w n (record { progress = p; bindings = bindings; log = log; index = index; answer = answer })) all
       ∙ ap (λ (p : Progress). ranSteps w (stepCount w) (record { progress = p; bindings = bindings; log = log; index = index; answer = answer })) start
       ∙ ap (λ (l : List ℕ). ranSteps w (stepCount w) (record { progress = startProgress w; bindings = bindings; log = l; index = index; answer = answer })) log-zero
       ∙ ap (λ (l : List ℕ). ranSteps w (stepCount w) (record { progress = startProgress w; bindings = bindings; log = replicate (length log) 0; index = l; answer = answer })) index-zero

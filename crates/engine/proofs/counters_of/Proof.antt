@@ -26,31 +26,31 @@ first-of-requires : tie.Need-first-of-requires Inv-loop μ-loop
 first-of-requires c κs =
     let pre = c .before .before .before .before .before .pre in
     let a = c .before .before .before .before .before .args in
-    omega (arith, c .before .before .before .size .ensures .0, c .before .before .size2 .ensures .0, pre .1 .tables, pre .1 .counters, few-tables (now (a .words)) (pre .0), few-counters (now (a .words)) (pre .0))
+    omega (arith, c .before .before .before .table-count .ensures, c .before .before .counter-count .ensures, pre .1 .tables, pre .1 .counters, few-tables (now (a .words)) (pre .0), few-counters (now (a .words)) (pre .0))
 
 array-write-next : tie.Need-array-write-next Inv-loop μ-loop
 array-write-next c =
     let pre = c .before .before .before .before .before .before .before .pre in
     let a = c .before .before .before .before .before .before .before .args in
-    let size2 = c .before .before .before .before .size2 in
-    omega (arith, size2 .ensures .0, pre .1 .counters, few-counters (now (a .words)) (pre .0))
+    let counter-count = c .before .before .before .before .counter-count in
+    omega (arith, counter-count .ensures, pre .1 .counters, few-counters (now (a .words)) (pre .0))
 
 loop-again : tie.Need-loop-again Inv-loop μ-loop
 loop-again c =
     let a = c .before .before .before .before .before .before .before .args in
     let pre = c .before .before .before .before .before .before .before .pre in
-    let size = c .before .before .before .before .before .size in
-    let size2 = c .before .before .before .before .size2 in
+    let table-count = c .before .before .before .before .before .table-count in
+    let counter-count = c .before .before .before .before .counter-count in
     let l = c .before .before .before .loop in
-    (omega arith, length-set (l .next) (l .c) (c .word .result) ∙ l .inv .1, filled-turn (λ k. getD (now (a .words)) (firstOf (now (a .words)) (size .result + k)) 0) (l .c) (replicate 16 0) (l .next) (c .word .result) 0 (l .inv .2) (c .word .ensures ∙ ap (λ (p : ℕ). getD (now (a .words)) p 0) (c .before .first-of .ensures .0)) (omega (arith, size2 .ensures .0, pre .1 .counters, few-counters (now (a .words)) (pre .0), length-replicate {A = ℕ} 16 0)))
+    (omega arith, length-set (l .next) (l .c) (c .word .result) ∙ l .inv .1, filled-turn (λ k. getD (now (a .words)) (firstOf (now (a .words)) (table-count .result + k)) 0) (l .c) (replicate 16 0) (l .next) (c .word .result) 0 (l .inv .2) (c .word .ensures ∙ ap (λ (p : ℕ). getD (now (a .words)) p 0) (c .before .first-of .ensures .0)) (omega (arith, counter-count .ensures, pre .1 .counters, few-counters (now (a .words)) (pre .0), length-replicate {A = ℕ} 16 0)))
 
 returns : tie.Need-returns Inv-loop μ-loop
 returns c =
     let a = c .before .before .before .before .before .args in
     let pre = c .before .before .before .before .before .pre in
-    let size = c .before .before .before .size in
-    let size2 = c .before .before .size2 in
-    counters-filled (now (a .words)) (c .before .loop .next) (size .result) (size2 .result) (let e : c .before .loop .c ≡ size2 .result = omega arith in rw (← e) (c .before .loop .inv .2)) (size .ensures .0 ∙ pre .1 .tables) (size2 .ensures .0 ∙ pre .1 .counters)
+    let table-count = c .before .before .before .table-count in
+    let counter-count = c .before .before .counter-count in
+    counters-filled (now (a .words)) (c .before .loop .next) (table-count .result) (counter-count .result) (let e : c .before .loop .c ≡ counter-count .result = omega arith in rw (← e) (c .before .loop .inv .2)) (table-count .ensures ∙ pre .1 .tables) (counter-count .ensures ∙ pre .1 .counters)
 
 pub counters-of-spec : {M : Type 1} → statement M
 counters-of-spec =

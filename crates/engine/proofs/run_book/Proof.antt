@@ -10,40 +10,18 @@ use borrow.Author.Needs.{needs}
 use Rattle.engine.proofs.run_book.Statement.{statement}
 use Rattle.engine.proofs.run_book.Tie as tie
 
-sizes-of-requires : tie.Need-sizes-of-requires
-sizes-of-requires c κs =
-    let a = c .before .before .before .before .before .before .args in
-    let pre = c .before .before .before .before .before .before .pre in
-    few-entries (now (a .words)) (pre .0 .readable)
-
-add-base : tie.Need-add-base
-add-base c = omega (arith, c .size2 .ensures .1, c .before .size .ensures .1)
-
-add-first : tie.Need-add-first
-add-first c = omega (arith, c .size3 .ensures .1, c .before .size2 .ensures .1, c .before .before .size .ensures .1)
+of-requires : tie.Need-of-requires
+of-requires c κs = few-entries (now (c .before .before .before .before .before .before .args .words)) (c .before .before .before .before .before .before .pre .0 .readable)
 
 start-requires : tie.Need-start-requires
-start-requires c κs =
-    let pre = c .before .before .before .before .before .before .before .before .before .before .before .pre in
-    let sizes-of = c .before .before .before .before .sizes-of in
-    (pre .0 .readable, sizes-of .ensures)
+start-requires c κs = (c .before .before .before .before .before .before .before .pre .0 .readable, c .of .ensures)
 
 run-steps-requires : tie.Need-run-steps-requires
 run-steps-requires c κs =
-    let sizes-of = c .before .before .before .before .before .before .before .before .before .sizes-of in
-    let size = c .before .before .before .before .before .before .before .before .size in
-    let size2 = c .before .before .before .before .before .before .before .size2 in
-    let size3 = c .before .before .before .before .before .before .size3 in
-    let size4 = c .before .before .before .before .before .size4 in
-    let start = c .before .before .before .before .start in
-    let p = c .before .before .before .before .before .before .before .before .before .before .before .before .before .before .before .before .pre in
-    let z = sizes-of .ensures in
-    let s = start .ensures in (
+    let p = c .before .before .before .before .before .before .before .before .before .before .before .before .pre in
+    let s = c .before .before .before .before .start .ensures in (
       p .0 .readable,
-      size .ensures .0 ∙ z .tables,
-      omega (arith, size .ensures .0, size2 .ensures .0, z .tables, z .counters),
-      omega (arith, size .ensures .0, size2 .ensures .0, size3 .ensures .0, z .tables, z .counters, z .rules),
-      size4 .ensures .0 ∙ z .steps,
+      c .before .before .before .before .before .of .ensures,
       ap (λ (p : Progress). p .done) s,
       ap (λ (p : Progress). p .at) s,
       record { used = omega (arith, ap (λ (p : Progress). p .state .used) s); short = p .4; slots = ap length (p .2) ∙ length-replicate {A = ℕ} 8192 0 },
@@ -52,47 +30,31 @@ run-steps-requires c κs =
 
 conclude-requires : tie.Need-conclude-requires
 conclude-requires c κs =
-    let sizes-of = c .before .before .before .before .before .before .before .before .before .before .before .before .before .before .before .before .before .before .before .before .before .sizes-of in
-    let size = c .before .before .before .before .before .before .before .before .before .before .before .before .before .before .before .before .before .before .before .before .size in
-    let size2 = c .before .before .before .before .before .before .before .before .before .before .before .before .before .before .before .before .before .before .before .size2 in
-    let size3 = c .before .before .before .before .before .before .before .before .before .before .before .before .before .before .before .before .before .before .size3 in
-    let size4 = c .before .before .before .before .before .before .before .before .before .before .before .before .before .before .before .before .before .size4 in
     let start = c .before .before .before .before .before .before .before .before .before .before .before .before .before .before .before .before .start in
-    let p = c .before .before .before .before .before .before .before .before .before .before .before .before .before .before .before .before .before .before .before .before .before .before .before .before .before .before .before .before .pre in
-    let a = c .before .before .before .before .before .before .before .before .before .before .before .before .before .before .before .before .before .before .before .before .before .before .before .before .before .before .before .before .args in
-    let z = sizes-of .ensures in
+    let p = c .before .before .before .before .before .before .before .before .before .before .before .before .before .before .before .before .before .before .before .before .before .before .before .before .pre in
+    let a = c .before .before .before .before .before .before .before .before .before .before .before .before .before .before .before .before .before .before .before .before .before .before .before .before .args in
     let r = c .before .before .before .before .before .before .before .before .before .before .before .run-steps in (
       p .0 .readable,
-      omega (arith, size .ensures .0, size2 .ensures .0, size3 .ensures .0, z .tables, z .counters, z .rules),
-      size .ensures .0 ∙ z .tables,
+      c .before .before .before .before .before .before .before .before .before .before .before .before .before .before .before .before .before .of .ensures,
       r .ensures .1 .1,
       p .5,
-      may-conclude (now (a .words)) (p .0) (now (a .bindings)) (now (a .index)) (now (a .log)) (now (a .answer)) (p .4) (p .2) (p .3) (p .6) _ (size4 .ensures .0 ∙ z .steps) _ (start .ensures) _ (r .ensures .0) (r .kept .1 .1 .1 .1 .1 .1 .1 .0) (r .ensures .1 .2) (r .ensures .1 .0),
+      may-conclude (now (a .words)) (p .0) (now (a .bindings)) (now (a .index)) (now (a .log)) (now (a .answer)) (p .4) (p .2) (p .3) (p .6) _ (start .ensures) _ (r .ensures .0) (r .kept .1 .1 .1 .1 .0) (r .ensures .1 .2) (r .ensures .1 .0),
     )
 
 returns : tie.Need-returns
 returns c =
-    let sizes-of = c .before .before .before .before .before .before .before .before .before .before .before .before .before .before .before .before .before .before .before .before .before .before .before .before .before .before .sizes-of in
-    let size4 = c .before .before .before .before .before .before .before .before .before .before .before .before .before .before .before .before .before .before .before .before .before .before .size4 in
     let start = c .before .before .before .before .before .before .before .before .before .before .before .before .before .before .before .before .before .before .before .before .before .start in
     let conclude = c .before .before .before .before .conclude in
-    let p = c .before .before .before .before .before .before .before .before .before .before .before .before .before .before .before .before .before .before .before .before .before .before .before .before .before .before .before .before .before .before .before .before .before .pre in
-    let a = c .before .before .before .before .before .before .before .before .before .before .before .before .before .before .before .before .before .before .before .before .before .before .before .before .before .before .before .before .before .before .before .before .before .args in
-    let z = sizes-of .ensures in
+    let p = c .before .before .before .before .before .before .before .before .before .before .before .before .before .before .before .before .before .before .before .before .before .before .before .before .before .before .before .before .before .pre in
+    let a = c .before .before .before .before .before .before .before .before .before .before .before .before .before .before .before .before .before .before .before .before .before .before .before .before .before .before .before .before .before .args in
     let r = c .before .before .before .before .before .before .before .before .before .before .before .before .before .before .before .before .run-steps in
-    book-concludes (now (a .words)) (p .0) (now (a .bindings)) (now (a .index)) (now (a .log)) (now (a .answer)) (p .4) (p .2) (p .3) (p .6) _ (size4 .ensures .0 ∙ z .steps) _ (start .ensures) _ (r .ensures .0) (r .kept .1 .1 .1 .1 .1 .1 .1 .0) (r .kept .1 .1 .1 .1 .1 .1 .1 .1 .1 .0) (now (a .tables)) (p .5) _ (conclude .ensures)
+    book-concludes (now (a .words)) (p .0) (now (a .bindings)) (now (a .index)) (now (a .log)) (now (a .answer)) (p .4) (p .2) (p .3) (p .6) _ (start .ensures) _ (r .ensures .0) (r .kept .1 .1 .1 .1 .0) (r .kept .1 .1 .1 .1 .1 .1 .0) (now (a .tables)) (p .5) _ (conclude .ensures)
 
 pub run-book-spec : {M : Type 1} → statement M
 run-book-spec =
     tie.close
     (tie.spec
-    sizes-of-requires
-    (λ c κs. search needs)
-    (λ c κs. search needs)
-    add-base
-    (λ c κs. search needs)
-    add-first
-    (λ c κs. search needs)
+    of-requires
     start-requires
     run-steps-requires
     conclude-requires
