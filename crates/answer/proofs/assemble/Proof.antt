@@ -1,3 +1,4 @@
+-- `total` is `wholeLength` (`whole-sum`), and no addition overflows (`small`); by the test it is over and the words stay, or the rest is what `fill` ensures.
 use Rattle.answer.specs.AssembledLaws.{small, whole-sum}
 use Rattle.answer.specs.LayoutLaws.{small-sum}
 use Rattle.answer.specs.Layout.{leftBy, bodyCount, entryAt, Small, wholeLength, assembled, assembledLength}

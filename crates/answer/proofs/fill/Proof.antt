@@ -1,3 +1,4 @@
+-- `whole-parts` and `front-parts` say where each part stands, so each write has room; all writes, one after the other, leave the answer and zeros (`fill-is`).
 use Rattle.answer.specs.AssembledLaws.{whole-parts, front-parts, fill-is}
 use Rattle.answer.specs.Layout.{rowsLength, tableWords, resultsOf, bodyCount}
 use Rattle.step_bodies.specs.Runs.{runs}

@@ -1,3 +1,4 @@
+-- By why the run ended, each case by `concluded-by`: going, it is what `settle` ensures; spent or full, the place is the step's entry (`first-step-is`).
 use mathlib.Core.Path.{_∙_}
 use native.Mathlib.Omega.{arith}
 use denote.Ref.{now}

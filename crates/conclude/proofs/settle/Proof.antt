@@ -1,3 +1,4 @@
+-- By whether a row had no room: refusal 15 (`settled-over`); or `enough-here` gives what `assemble` requires, and what it leaves is `settled-answer`.
 use mathlib.Core.Path.{sym, _∙_}
 use native.Mathlib.Omega.{arith}
 use lib.Seq.{length-take-le}

@@ -1,3 +1,4 @@
+-- The first i entries fit, and `last`, `end` and `counts` tell of them (`more-counts`); `fits` is the model's test (`entry-test`); each return has its own law.
 use Prim.Native.Nat.{ℕ, _+_, _≤_, _<_, _-_}
 use mathlib.Core.Path.{_≡_, refl, sym, ap, _∙_}
 use mathlib.Core.Bool.{true}

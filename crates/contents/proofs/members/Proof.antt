@@ -1,3 +1,4 @@
+-- After i turns c is how many of the first i are of group g: one more if the next is (`count-yes`), else the same (`count-no`); at the end i is n.
 use Prim.Native.Nat.{_≤_, _-_}
 use mathlib.Core.Path.{_≡_, sym, ap, _∙_}
 use mathlib.Core.Logic.{⊎-elim}

@@ -1,3 +1,4 @@
+-- After c turns the first c words are counters, the rest 0 (`filled-turn`); at the end c is their number, and that is the padded list (`counters-filled`).
 use mathlib.Core.Path.{_≡_, ap, _∙_}
 use Prim.Native.Nat.{ℕ, _+_, _-_, _≤_}
 use lib.ListN.{length, getD, replicate, length-set, length-replicate}

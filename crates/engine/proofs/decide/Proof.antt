@@ -1,3 +1,4 @@
+-- By the tests: wrong lengths are refusal 14 (`decided-14`), refused bytes are `decided-book`; past both, `true-fit` gives what `decide_book` requires.
 use lib.ListN.{length}
 use borrow.Author.Tests.{not-true, not-false}
 use mathlib.Core.Path.{sym, ap, _∙_}

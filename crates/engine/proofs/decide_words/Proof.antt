@@ -1,3 +1,4 @@
+-- The first n words are the book's (`front-is`); by the verdict: a pass may run (`front-runnable`) and is `front-decided`, a refusal is `front-refused`.
 use Prim.Native.Nat.{ℕ}
 use mathlib.Core.Path.{sym, ap, _∙_}
 use native.Mathlib.Omega.{arith}

@@ -1,3 +1,4 @@
+-- `decide` gets zeros (`zeroed`), as many as were lent (`lent-same`), so its outcome is permitted (`left-permitted`); the last clears leave zeros (`zeros-as`).
 use lib.ListN.{length}
 use mathlib.Core.Path.{refl, _∙_}
 use denote.Ref.{now}

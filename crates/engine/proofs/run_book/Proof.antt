@@ -1,3 +1,4 @@
+-- The run is one from the start and from zeros, so `conclude` may go on from it (`may-conclude`), and what that ensures is `Concludes` (`book-concludes`).
 use Prim.Native.Nat.{ℕ}
 use mathlib.Core.Path.{ap, _∙_}
 use native.Mathlib.Omega.{arith}

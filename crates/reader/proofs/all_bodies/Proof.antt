@@ -1,3 +1,4 @@
+-- No body before i is refused (`below-more`); if body i is, it is the first (`bodies-refused`); at the end i is the count, and none is (`bodies-pass`).
 use types.Run.{miss}
 use mathlib.Core.List.{[], _∷_}
 use Prim.Native.Nat.{ℕ, _-_, _≤_, _<_}

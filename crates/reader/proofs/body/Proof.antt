@@ -1,3 +1,4 @@
+-- By the tests in order, a law for each: a bad walk (`body-bad`), 6 (`body-six`), 4 (`body-four`), a table's rows (`body-rows`), or none (`body-pass`).
 use mathlib.Core.Path.{sym, ap, _∙_}
 use native.Mathlib.Omega.{arith}
 use Rattle.reader.specs.ReadLaws.{few, body-bad, body-six, body-four, body-rows, body-pass, table-at}

@@ -1,3 +1,4 @@
+-- By whether a rule is refused: then that is the whole (`else-stop`); if none is, the whole is what `fit_steps` ensures (`else-on`).
 use mathlib.Core.Path.{sym, _∙_}
 use denote.Ref.{now}
 use Rattle.model.specs.Book.Read.{stepsRefusal}

@@ -1,3 +1,4 @@
+-- The first j instructions pass, p is the next one's place (`next-here`), `bound` what it may read (`bound-here`); one refused is `rule-stop`, none `rule-end`.
 use Prim.Native.Nat.{ℕ, _+_, _-_, _≤_}
 use mathlib.Core.Path.{refl, _≡_, sym, ap, _∙_}
 use native.Mathlib.Omega.{arith}

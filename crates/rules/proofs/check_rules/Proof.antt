@@ -1,3 +1,4 @@
+-- The first r rules pass (`below-more`); if the next is refused, it is the first (`rules-stop`); at the end r is their number, and all pass (`rules-end`).
 use Prim.Native.Nat.{ℕ, _-_, _≤_, _<_}
 use mathlib.Core.Option.{none}
 use mathlib.Core.Path.{_≡_, sym, _∙_}

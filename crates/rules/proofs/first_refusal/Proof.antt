@@ -1,3 +1,4 @@
+-- By the reading: what it refuses is the whole (`words-stop`); if it passes, the words are readable (`none-read`), and `check_book` is the whole (`words-on`).
 use mathlib.Core.Path.{sym, ap, _∙_}
 use denote.Ref.{now}
 use Rattle.reader.specs.Reading.{refusalOf}

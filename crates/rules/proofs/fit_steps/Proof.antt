@@ -1,3 +1,4 @@
+-- The first k steps fit (`below-more`); if the next does not, it is the first (`steps-stop`); at the end k is their number, and all fit (`steps-end`).
 use Prim.Native.Nat.{ℕ, _-_, _≤_, _<_}
 use mathlib.Core.Bool.{true}
 use mathlib.Core.Path.{_≡_, sym, _∙_}

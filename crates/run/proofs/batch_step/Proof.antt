@@ -1,3 +1,4 @@
+-- By whether the run goes on: the body is put (`batch-answered`), at most 8483 words of at most 256 lanes (`batch-most`); or it halts (`batch-stopped`).
 use Prim.Native.Nat.{ℕ, _+_, _≤_}
 use mathlib.Core.Path.{sym, ap, subst, _∙_}
 use native.Mathlib.Omega.{arith}

@@ -1,3 +1,4 @@
+-- By whether the run goes on: the body is put (`row-answered`), at most 17 words, as a row has 16 at most (`row-most`); or it halts (`row-stopped`).
 use Prim.Native.Nat.{ℕ, _+_, _≤_}
 use mathlib.Core.Path.{sym, ap, subst, _∙_}
 use mathlib.Core.List.{List}

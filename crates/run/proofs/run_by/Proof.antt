@@ -1,3 +1,4 @@
+-- After k turns all is as k of `ranNext` leave it (`iter-more`), with at most k steps done and 8483 k body words; at the end k is the step count, 64 at most.
 use Prim.Native.Nat.{_-_, _*_, _<_, _≤_}
 use mathlib.Core.Path.{_≡_, refl, _∙_}
 use native.Mathlib.Omega.{arith}

@@ -1,3 +1,4 @@
+-- By state and kind: a run that stopped stays (`next-stopped`), 4 is `next-batch`, and any other kind is 5 (`not-batch`) and so `next-prediction`.
 use mathlib.Core.Path.{_≡_, sym, ap, _∙_}
 use native.Mathlib.Omega.{arith}
 use denote.Ref.{now}

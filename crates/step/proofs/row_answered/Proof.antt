@@ -1,3 +1,4 @@
+-- By the calls' contracts table and key are those of `rowAnswered`, so `row_of` gives it; that the table may be searched is `table-here`.
 use mathlib.Core.Path.{_∙_}
 use native.Mathlib.Omega.{arith}
 use Rattle.step.specs.Steps.{rowAnswered}

@@ -1,3 +1,4 @@
+-- The numbers read, zeroed and loaded bindings (`columns-within`), first variables and full mask are where `ranBatch` starts; the rest is `run_instrs`.
 use Prim.Native.Nat.{ℕ}
 use mathlib.Core.Path.{_≡_, ap, _∙_}
 use mathlib.Core.Bool.{Bool}

@@ -1,3 +1,4 @@
+-- By the calls' contracts row and key are those of `askedRow`, so `predict_val` gives it; `table-here`, `writes-short`, `prediction-facts` let it be called.
 use mathlib.Core.Path.{_∙_}
 use native.Mathlib.Omega.{arith}
 use Rattle.args.specs.Args.{wordsAt}

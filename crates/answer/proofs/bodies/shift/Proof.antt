@@ -1,3 +1,4 @@
+-- After i turns the last i of the n words stand d words further on, all else as it was (`moved-turn`); at the end i is n, and all n are moved (`moved-all`).
 use Rattle.answer.specs.Moved.{moved, moved-none, moved-turn, moved-all}
 use lib.ListN.{length}
 use denote.Ref.{now}

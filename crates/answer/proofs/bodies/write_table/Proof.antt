@@ -1,3 +1,4 @@
+-- The four words set and the rows past them are `tableWords`, put from `at` on (`put-four`); that they all fit is `room`.
 use Rattle.answer.specs.Layout.{rowsLength}
 use Rattle.step_bodies.specs.Runs.{put-four}
 use Rattle.model.specs.Laws.Bodies.{length-part}

@@ -1,3 +1,4 @@
+-- After t turns t tables stand from `start` on (`put-more`), `at` is past them (`end-more`), `from` past their rows (`sum-turn`); at the end t is n.
 use Rattle.answer.specs.Layout.{rowsLength, tableWords}
 use Rattle.step_bodies.specs.Runs.{runs, put-none, end-none, put-more, end-more, put-fits}
 use Rattle.answer.specs.Sums.{sum, sum-none, sum-turn, sum-fits}

@@ -1,3 +1,4 @@
+-- By the three tests of i, which are those of `entryAt`; past them each side is rewritten to the other by the calls' contracts; rows fit by `small-rows`.
 use Rattle.answer.specs.LayoutLaws.{small-rows}
 use Rattle.answer.specs.Layout.{entryAt}
 use borrow.Author.Tests.{lt-ltb, le-ltb}

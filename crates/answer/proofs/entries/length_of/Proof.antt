@@ -1,3 +1,4 @@
+-- After i turns s is the sum of the first i lengths (`sum-turn`), and no addition overflows (`small-entry`); at the end i is n.
 use Rattle.answer.specs.LayoutLaws.{small-entry}
 use Rattle.answer.specs.Layout.{entryAt}
 use Rattle.answer.specs.Sums.{sum, sum-none, sum-turn}

@@ -1,3 +1,4 @@
+-- By the calls' contracts both factors are those of `rowsLength`; so the product is it, which the requirement keeps at 16384 or less: no overflow.
 use native.Mathlib.Omega.{arith}
 use Prim.Native.Nat.{_*_, _≤_}
 use borrow.Author.Needs.{needs}

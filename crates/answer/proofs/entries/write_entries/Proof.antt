@@ -1,3 +1,4 @@
+-- After i turns i entries stand from word 1 on (`put-more`), 3 words each (`length-entries`), and `first` is the next body's word; at the end i is n.
 use Rattle.answer.specs.LayoutLaws.{small-entry, length-entries}
 use Rattle.answer.specs.Layout.{entryAt, entryWords}
 use Rattle.step_bodies.specs.Runs.{runs, put-none, put-more}

@@ -1,3 +1,4 @@
+-- By whether `left` is bad: then the block is bad too (`block-stops`); if not, the block is n clean words from there (`block-is`), which `cleans` ensures.
 use mathlib.Core.Path.{sym, ap, _∙_}
 use Rattle.reader.specs.Values.{scanOf}
 use denote.Ref.{now}

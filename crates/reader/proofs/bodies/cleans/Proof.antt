@@ -1,3 +1,4 @@
+-- After i turns t is the walk i clean words past s (`iter-more`); at the end i is n.
 use Prim.Native.Nat.{_≤_, _-_}
 use mathlib.Core.Path.{_≡_, refl, _∙_}
 use native.Mathlib.Omega.{arith}

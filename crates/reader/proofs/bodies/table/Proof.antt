@@ -1,3 +1,4 @@
+-- By the width: 0 is bad (`table-empty`), above 16 is bad (`table-wide`); else the calls' contracts, one in the other, are the walk (`table-is`).
 use Rattle.reader.specs.BodyLaws.{table-is, table-empty, table-wide, words-fit}
 use mathlib.Core.Path.{sym}
 use Prim.Native.Nat.{_+_}

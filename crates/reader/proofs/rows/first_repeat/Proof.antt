@@ -1,3 +1,4 @@
+-- No row before i repeats (`below-more`), and row i is at `own` (`next-row`); if it does, it is the first (`refuse-row`); at the end none does (`pass-rows`).
 use Prim.Native.Nat.{ℕ, _-_, _≤_, _<_}
 use mathlib.Core.Path.{_≡_, sym, _∙_}
 use mathlib.Core.Bool.{false}

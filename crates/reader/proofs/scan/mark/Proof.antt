@@ -1,3 +1,4 @@
+-- By the draw: in each case the model's `mark` is the same scan, since `next` is `at + 1` and `earliest` is the model's.
 use borrow.Author.Needs.{needs}
 use Rattle.reader.proofs.scan.mark.Statement.{statement}
 use Rattle.reader.proofs.scan.mark.Tie as tie

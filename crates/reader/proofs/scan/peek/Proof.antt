@@ -1,3 +1,4 @@
+-- By the scan: a bad one is 0 on both sides; a good one is the word that `take` gives, or past the end 0, as `getD` is there (`List·getD-eq-default`).
 use mathlib.Core.Path.{sym}
 use lib.ListN.{List·getD-eq-default}
 use native.Mathlib.Omega.{arith}

@@ -1,3 +1,4 @@
+-- By the kind: 4 is a batch at `at`, which the model reads as step k (`step-batch`); else it is 5 (`not-batch`), and likewise a prediction (`step-prediction`).
 use Prim.Native.Nat.{ℕ, _+_}
 use mathlib.Core.Path.{sym, ap, _∙_}
 use native.Mathlib.Omega.{arith}
