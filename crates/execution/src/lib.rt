@@ -29,6 +29,12 @@ pub struct ExecutionState {
     pub stop: Stop,
 }
 
+// The live lanes of a batch, and what the run keeps.
+pub struct Live {
+    pub mask: Mask,
+    pub state: ExecutionState,
+}
+
 // What a lane can stage.
 pub enum Change {
     Insert,

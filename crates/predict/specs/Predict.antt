@@ -78,12 +78,13 @@ abbrev pub noted : Got → Got
 noted g = record { made = g .made; state = record { used = g .state .used; counters = g .state .counters; changed = g .state .changed || g .made; stop = g .state .stop } }
 
 module _ (w : List ℕ) where
-  -- lane i has a column of the row that the key has, if the run goes on
-  abbrev pub takenWord : Asking → List ℕ → ℕ → Bool → (log ix out : List ℕ) → List ℕ
-  takenWord ask key i going log ix out = cond going (set out i (getD (rowOf homeOf w log ix (ask .row .of) key) (ask .col .0) 0)) out
+  -- lane i has a column of the row that the key has
+  abbrev pub takenWord : Asking → List ℕ → ℕ → (log ix out : List ℕ) → List ℕ
+  takenWord ask key i log ix out = set out i (getD (rowOf homeOf w log ix (ask .row .of) key) (ask .col .0) 0)
 
+  -- if the run goes on
   abbrev pub taken : Asking → List ℕ → ℕ → List ℕ → Gotten → Served
-  taken ask key i out g = record { state = g .got .state; log = g .log; index = g .index; out = takenWord ask key i (isGoing (g .got .state)) (g .log) (g .index) out }
+  taken ask key i out g = record { state = g .got .state; log = g .log; index = g .index; out = cond (isGoing (g .got .state)) (takenWord ask key i (g .log) (g .index) out) out }
 
 module _ (w m : List ℕ) where
   -- a new row

@@ -1,11 +1,11 @@
 // Predicted rows: one for each table and asked key, found in the log by the index, else built and logged; and who asks for them.
 use args::Args;
 use execution::ExecutionState;
+use execution::Live;
 use execution::Stop;
 use ids::ColumnId;
 use ids::Lane;
 use instr::Entries;
-use mask::Mask;
 use predicted_index::Slot;
 use predicted_index::Sought;
 use tables::Found;
@@ -22,6 +22,12 @@ pub struct Row {
     pub vals: Entries,
 }
 
+// That row, by its key.
+pub struct Keyed {
+    pub row: Row,
+    pub key: Args,
+}
+
 // A row was got: whether it is new, and what the run keeps.
 pub struct Got {
     pub made: bool,
@@ -33,6 +39,13 @@ pub struct Asking {
     pub row: Row,
     pub key: Entries,
     pub col: ColumnId,
+}
+
+// A lane's turn to be served, if it is live, and what the run keeps.
+struct Turn {
+    lane: Lane,
+    live: bool,
+    state: ExecutionState,
 }
 
 // The run ends, and there is no row.
@@ -50,20 +63,20 @@ fn insert(
     words: &[u32],
     bindings: &[u32],
     lane: Lane,
-    row: Row,
-    key: Args,
+    want: Keyed,
     slot: usize,
     s: ExecutionState,
     log: &mut [u32],
     index: &mut [u32],
 ) -> Got
-    requires { ⌜ Short (row .vals) × (key .count ≤ 16) × Ready s (now log) (now index) × (slot < 8192) ⌝ }
+    requires { ⌜ Short (want .row .vals) × (want .key .count ≤ 16) × Ready s (now log) (now index) × (slot < 8192) ⌝ }
     ensures is { λ r. ⌜ asGotten r (now (log .exit)) (now (index .exit))
-        ≡ inserted (now (words .entry)) (now (bindings .entry)) (lane .0) row key slot
+        ≡ inserted (now (words .entry)) (now (bindings .entry)) (lane .0) (want .row) (want .key) slot
         (asHeld s (now (log .entry)) (now (index .entry))) ⌝ }
     ensures fits { λ r. ⌜ r .state .used ≤ length (now (log .entry)) ⌝ }
 {
-    let b = build::build(words, bindings, lane, key, row.vals, s.counters);
+    let row = want.row;
+    let b = build::build(words, bindings, lane, want.key, row.vals, s.counters);
     if b.spent {
         return stop(s, Stop::Spent);
     }
@@ -93,89 +106,83 @@ impl PredictedVals {
         words: &[u32],
         bindings: &[u32],
         lane: Lane,
-        row: Row,
-        key: Args,
+        want: Keyed,
         s: ExecutionState,
         log: &mut [u32],
         index: &mut [u32],
     ) -> Got
-        requires { ⌜ Short (row .vals) × (row .of .info .keys ≤ 16) × (key .count ≤ 16) × Ready s (now log) (now index) ⌝ }
+        requires { ⌜ Short (want .row .vals) × (want .row .of .info .keys ≤ 16) × (want .key .count ≤ 16)
+            × Ready s (now log) (now index) ⌝ }
         ensures is { λ r. ⌜ asGotten r (now (log .exit)) (now (index .exit))
-            ≡ gotten (now (words .entry)) (now (bindings .entry)) (lane .0) row key
+            ≡ gotten (now (words .entry)) (now (bindings .entry)) (lane .0) (want .row) (want .key)
             (asHeld s (now (log .entry)) (now (index .entry))) ⌝ }
         ensures fits { λ r. ⌜ r .state .used ≤ length (now (log .entry)) ⌝ }
     {
+        let row = want.row;
+        let key = want.key;
         let vals = key.vals;
         match predicted_index::get(index, log, row.of.table, &vals, row.of.info.keys) {
             Slot::Hit(_) => Got {
                 made: false,
                 state: s,
             },
-            Slot::Free(slot) => insert(words, bindings, lane, row, key, slot, s, log, index),
+            Slot::Free(slot) => insert(words, bindings, lane, want, slot, s, log, index),
             // never so: a log has room for 5461 rows at most
             Slot::Full => stop(s, Stop::Full),
         }
     }
 }
 
-// The lane's word, a column of the row that the key has; none where the run ended.
+// The lane's word, a column of the row that the key has.
 fn take<'a>(
     words: &'a [u32],
     chains: &[u32],
     ask: Asking,
     key: Args,
     lane: Lane,
-    going: bool,
     log: &'a [u32],
     index: &[u32],
     out: &mut [u32],
 )
     requires { ⌜ Searchable (now words) (now chains) (ask .row .of) × (lane .0 < length (now out)) ⌝ }
-    ensures { λ _. ⌜ now (out .exit) ≡ takenWord (now (words .entry)) ask (key .vals) (lane .0) going (now (log .entry))
+    ensures { λ _. ⌜ now (out .exit) ≡ takenWord (now (words .entry)) ask (key .vals) (lane .0) (now (log .entry))
         (now (index .entry)) (now (out .entry)) ⌝ }
 {
-    if going {
-        let vals = key.vals;
-        let row = predicted_index::row_of(words, log, chains, index, ask.row.of, &vals);
-        let i = lane.0;
-        out[i] = words::word(row, words::size(ask.col.0));
-    }
+    let vals = key.vals;
+    let row = predicted_index::row_of(words, log, chains, index, ask.row.of, &vals);
+    let i = lane.0;
+    out[i] = words::word(row, words::size(ask.col.0));
 }
 
-// A lane that is served has its word in `out`.
+// A lane that is served has its word in `out`, unless the run ended.
 fn serve_lane(
     words: &[u32],
     chains: &[u32],
     bindings: &[u32],
     ask: Asking,
-    live: bool,
-    lane: Lane,
-    s: ExecutionState,
+    turn: Turn,
     log: &mut [u32],
     index: &mut [u32],
     out: &mut [u32],
 ) -> ExecutionState
     requires { ⌜ Searchable (now words) (now chains) (ask .row .of) × Short (ask .key) × Short (ask .row .vals)
-        × Ready s (now log) (now index) × (lane .0 < length (now out)) ⌝ }
+        × Ready (turn .state) (now log) (now index) × (turn .lane .0 < length (now out)) ⌝ }
     ensures is { λ r. ⌜ asServed r (now (log .exit)) (now (index .exit)) (now (out .exit))
-        ≡ servedLane (now (words .entry)) (now (bindings .entry)) ask live (lane .0)
-        (asServed s (now (log .entry)) (now (index .entry)) (now (out .entry))) ⌝ }
+        ≡ servedLane (now (words .entry)) (now (bindings .entry)) ask (turn .live) (turn .lane .0)
+        (asServed (turn .state) (now (log .entry)) (now (index .entry)) (now (out .entry))) ⌝ }
     ensures fits { λ r. ⌜ r .used ≤ length (now (log .entry)) ⌝ }
 {
-    if live & s.going() {
+    let lane = turn.lane;
+    let s = turn.state;
+    if turn.live & s.going() {
         let key = lanes::fetch(words, bindings, ask.key, lane);
-        let got = PredictedVals::get_or_insert_with(
-            words,
-            bindings,
-            lane,
-            ask.row,
-            key,
-            s,
-            log,
-            index,
-        );
+        let row = ask.row;
+        let want = Keyed { row, key };
+        let got = PredictedVals::get_or_insert_with(words, bindings, lane, want, s, log, index);
         let t = got.state;
-        take(words, chains, ask, key, lane, t.going(), log, index, out);
+        if t.going() {
+            take(words, chains, ask, key, lane, log, index, out);
+        }
         return t;
     }
     s
@@ -187,35 +194,30 @@ pub fn serve_lanes(
     chains: &[u32],
     bindings: &[u32],
     ask: Asking,
-    mask: Mask,
-    start: ExecutionState,
+    start: Live,
     log: &mut [u32],
     index: &mut [u32],
     out: &mut [u32],
 ) -> ExecutionState
     requires { ⌜ Searchable (now words) (now chains) (ask .row .of) × Short (ask .key) × Short (ask .row .vals)
-        × Ready start (now log) (now index) × (length (now out) ≡ 256) ⌝ }
+        × Ready (start .state) (now log) (now index) × (length (now out) ≡ 256) ⌝ }
     ensures is { λ r. ⌜ asServed r (now (log .exit)) (now (index .exit)) (now (out .exit))
-        ≡ servedLanes (now (words .entry)) (now (bindings .entry)) ask (mask .live)
-        (asServed start (now (log .entry)) (now (index .entry)) (now (out .entry))) ⌝ }
+        ≡ servedLanes (now (words .entry)) (now (bindings .entry)) ask (start .mask .live)
+        (asServed (start .state) (now (log .entry)) (now (index .entry)) (now (out .entry))) ⌝ }
     ensures fits { λ r. ⌜ r .used ≤ length (now (log .entry)) ⌝ }
 {
+    let mask = start.mask;
     let n = mask.end();
-    let mut s = start;
+    let mut s = start.state;
     let mut i = 0;
     while i < n {
-        s = serve_lane(
-            words,
-            chains,
-            bindings,
-            ask,
-            mask.live[i],
-            Lane(i),
-            s,
-            log,
-            index,
-            out,
-        );
+        let live = mask.live[i];
+        let turn = Turn {
+            lane: Lane(i),
+            live,
+            state: s,
+        };
+        s = serve_lane(words, chains, bindings, ask, turn, log, index, out);
         i += 1;
     }
     s
@@ -238,18 +240,20 @@ pub fn predict_val(
     words: &[u32],
     chains: &[u32],
     bindings: &[u32],
-    row: Row,
-    key: Args,
+    want: Keyed,
     s: ExecutionState,
     log: &mut [u32],
     index: &mut [u32],
 ) -> Got
-    requires { ⌜ Searchable (now words) (now chains) (row .of) × Short (row .vals) × (key .count ≤ 16) × Ready s (now log) (now index) ⌝ }
+    requires { ⌜ Searchable (now words) (now chains) (want .row .of) × Short (want .row .vals) × (want .key .count ≤ 16)
+        × Ready s (now log) (now index) ⌝ }
     ensures is { λ r. ⌜ asGotten r (now (log .exit)) (now (index .exit))
-        ≡ answered (now (words .entry)) (now (bindings .entry)) row key
+        ≡ answered (now (words .entry)) (now (bindings .entry)) (want .row) (want .key)
         (asHeld s (now (log .entry)) (now (index .entry))) ⌝ }
     ensures fits { λ r. ⌜ r .state .used ≤ length (now (log .entry)) ⌝ }
 {
+    let row = want.row;
+    let key = want.key;
     let vals = key.vals;
     match hash_index::look_up_among(words, chains, row.of.info, row.of.first, &vals) {
         Found::At(_) => Got {
@@ -261,8 +265,7 @@ pub fn predict_val(
                 words,
                 bindings,
                 Lane(0),
-                row,
-                key,
+                want,
                 s,
                 log,
                 index,

@@ -1,12 +1,16 @@
+use native.Mathlib.Omega.{arith}
 use Rattle.predict.specs.Predict.{inserted}
 use borrow.Author.Needs.{needs}
 use Rattle.predict.proofs.insert.Statement.{statement}
 use Rattle.predict.proofs.insert.Tie as tie
 
+insert-requires : tie.Need-insert-requires
+insert-requires c κs = let p = c .before .before .before .before .before .before .before .before .before .before .before .before .before .before .before .before .before .before .pre in (omega (arith, p .2 .slots, p .3), omega (arith, p .2 .used, p .2 .short))
+
 returns : tie.Need-returns
 unfolding inserted
 returns c =
-    let pre = c .before .before .before .before .before .before .before .pre in
+    let pre = c .before .before .before .before .before .before .before .before .pre in
     (rw (← c .before .before .build .ensures .0, c .before .if1 .taken, c .stop .ensures), rw (c .stop .ensures) (pre .2 .used))
 
 returns-2 : tie.Need-returns-2
@@ -38,7 +42,7 @@ insert-spec =
     returns
     (λ c κs. search needs)
     (λ c κs. search needs)
-    (λ c κs. search needs)
+    insert-requires
     (λ c. search needs)
     (λ c. search needs)
     returns-2

@@ -6,13 +6,13 @@ use Rattle.predict.proofs.predict_val.Tie as tie
 
 look-up-among-requires : tie.Need-look-up-among-requires
 look-up-among-requires c κs =
-    let pre = c .before .before .before .before .before .before .before .pre in
+    let pre = c .before .before .before .before .before .before .before .before .before .pre in
     (pre .0 .stands, pre .0 .indexed)
 
 returns : tie.Need-returns
 unfolding answered
 returns c =
-    let pre = c .before .before .before .before .before .before .before .before .before .before .pre in
+    let pre = c .before .before .before .before .before .before .before .before .before .before .before .before .pre in
     (rw (← c .before .before .look-up-among .ensures, c .enum-told .given .1), pre .3 .used)
 
 returns-2 : tie.Need-returns-2

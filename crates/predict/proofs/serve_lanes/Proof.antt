@@ -28,10 +28,10 @@ loop-holds c = (search needs, refl, refl, refl, search needs, refl)
 
 serve-lane-requires : tie.Need-serve-lane-requires Inv-loop μ-loop
 serve-lane-requires c κs =
-    let end = c .before .before .before .before .before .before .end in
+    let end = c .before .before .before .before .before .before .before .end in
     let l = c .before .before .before .before .before .loop in
     let loop-test = c .before .before .before .before .loop-test in
-    let p = c .before .before .before .before .before .before .before .before .before .before .before .before .before .pre in
+    let p = c .before .before .before .before .before .before .before .before .before .before .before .before .before .before .before .pre in
     let v = l .inv in
     let r = p .3 in
     (p .0, p .1, p .2, record { used = omega (arith, v .4, v .1); short = omega (arith, r .short, v .1); slots = v .2 ∙ r .slots }, omega (arith, loop-test .taken, p .4, v .3, end .ensures .1))
@@ -40,7 +40,7 @@ loop-again : tie.Need-loop-again Inv-loop μ-loop
 loop-again c =
     let l = c .before .before .before .before .before .before .before .before .before .before .before .before .loop in
     let r = c .before .before .before .before .before .before .serve-lane in
-    let k = r .kept .1 .1 .1 .1 .1 .1 .1 in (
+    let k = r .kept .1 .1 .1 .1 .1 in (
       search needs,
       k .0 ∙ l .inv .1,
       k .1 .0 ∙ l .inv .2,
@@ -49,12 +49,16 @@ loop-again c =
       iter-more _ (l .i) _ _ _ (l .inv .5) (r .ensures .0),
     )
 
+-- a mask has 256 lanes
+lanes : (c : tie.After-mask Inv-loop μ-loop) → length (c .before .before .before .before .before .before .before .args .start .mask .live) ≡ 256
+lanes c = search needs
+
 returns : tie.Need-returns Inv-loop μ-loop
 unfolding servedLanes servedLane
 returns c =
     let l = c .before .loop in
-    let m = c .before .before .before .before .before .before .before .before .before .args .t5 .live in
-    (live-turns m (search needs) _ (l .i) _ _ (l .inv .5) (omega (arith, c .before .before .end .ensures .0)) (λ k q. rw q), l .inv .4)
+    let m = c .before .before .before .before .before .before .before .before .before .before .before .args .start .mask .live in
+    (live-turns m (lanes (c .before .before .before .before)) _ (l .i) _ _ (l .inv .5) (omega (arith, c .before .before .before .end .ensures .0)) (λ k q. rw q), l .inv .4)
 
 pub serve-lanes-spec : {M : Type 1} → statement M
 serve-lanes-spec =

@@ -4,18 +4,10 @@ use Rattle.predict.proofs.take.Statement.{statement}
 use Rattle.predict.proofs.take.Tie as tie
 
 mul-out : tie.Need-mul-out
-mul-out c =
-    let pre = c .before .before .before .before .before .before .before .before .before .before .before .pre in
-    let good = c .before .before .before .before .before .before .before .before .before .before .before .good in
-    omega (arith, pre .1, good)
+mul-out c = omega (arith, c .before .before .before .before .before .before .before .before .before .before .pre .1, c .before .before .before .before .before .before .before .before .before .before .good)
 
 returns : tie.Need-returns
-returns c =
-    let if1 = c .before .before .before .before .before .if1 in
-    rw (if1 .taken, c .word .ensures, c .before .size .ensures .0, c .before .before .row-of .ensures)
-
-returns-2 : tie.Need-returns-2
-returns-2 c = rw (c .if1 .left)
+returns c = rw (c .word .ensures, c .before .size .ensures .0, c .before .before .row-of .ensures)
 
 pub take-spec : {M : Type 1} → statement M
 take-spec =
@@ -27,5 +19,4 @@ take-spec =
     mul-out
     (λ c. search needs)
     (λ c. search needs)
-    returns
-    returns-2)
+    returns)

@@ -10,13 +10,13 @@ use Rattle.predict.proofs.PredictedVals.get_or_insert_with.Tie as tie
 insert-requires : tie.Need-insert-requires
 insert-requires c κs =
     let get = c .before .before .before .before .before .get in
-    let p = c .before .before .before .before .before .before .before .before .before .before .before .before .before .before .pre in
+    let p = c .before .before .before .before .before .before .before .before .before .before .before .before .before .before .before .before .pre in
     (p .0, p .2, p .3, get-below homeOf home-below _ _ _ _ _ _ (sym (get .ensures .0) ∙ c .before .before .before .slot .given .1))
 
 returns : tie.Need-returns
 unfolding gotten
 returns c =
-    let pre = c .before .before .before .before .before .before .before .before .before .before .before .pre in
+    let pre = c .before .before .before .before .before .before .before .before .before .before .before .before .before .pre in
     (rw (← c .before .before .get .ensures .0, c .enum-told .given .1), pre .3 .used)
 
 returns-2 : tie.Need-returns-2
@@ -31,7 +31,7 @@ returns-2 c =
 returns-3 : tie.Need-returns-3
 unfolding gotten
 returns-3 c =
-    let pre = c .before .before .before .before .before .before .before .before .before .before .before .before .pre in
+    let pre = c .before .before .before .before .before .before .before .before .before .before .before .before .before .before .pre in
     (rw (← c .before .before .before .get .ensures .0, c .before .enum-told2 .given .1, c .stop .ensures), rw (c .stop .ensures) (pre .3 .used))
 
 pub get-or-insert-with-spec : {M : Type 1} → statement M
