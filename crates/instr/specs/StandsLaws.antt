@@ -2,46 +2,45 @@
 use Prim.Native.Nat.{ℕ, zero, suc, _+_, _≤_}
 use mathlib.Core.Path.{_≡_, refl}
 use mathlib.Core.List.{List}
-use native.Mathlib.Nat.{add-assoc}
 use native.Mathlib.Omega.{arith}
 use lib.Dec.{lit<}
-use lib.ListN.{getD}
+use lib.ListN.{getD, take}
 use Rattle.model.specs.Book.Syntax.{dstOf}
-use Rattle.model.specs.Book.Layout.{formOf}
+use Rattle.model.specs.Book.Layout.{Field, formOf}
 use Rattle.model.specs.Book.Scan.{fine, upTo}
-use Rattle.model.specs.Book.Decode.{after}
+use Rattle.model.specs.Book.Decode.{after, past}
 use Rattle.model.specs.Book.Read.{sizes}
 use Rattle.model.specs.Laws.Scan.{FieldsOk, InstrOk, upTo-fine, below-fine}
-use Rattle.instr.specs.Instr.{listAt, pastList, instrBy, instrAt, lookupOrInsertDefaultAt, lookupWithDefaultAt, lookupAt, lookupWithFallbackAt, insertAt, insertIfEqAt, removeAt, externalAt, externalWithFallbackAt, assertEqAt, assertNeAt, assertAnyNeAt, readCounterAt}
+use Rattle.instr.specs.Fields.{partAt}
+use Rattle.instr.specs.FieldLaws.{place-near}
+use Rattle.instr.specs.Instr.{listIn, instrBy, instrAt}
 use Rattle.instr.specs.declared.Instr.{Instr}
 use Rattle.instr.specs.declared.Instr.the-variants.{LookupOrInsertDefault, LookupWithDefault, Lookup, LookupWithFallback, Insert, InsertIfEq, Remove, External, ExternalWithFallback, AssertEq, AssertNe, AssertAnyNe, ReadCounter}
 use Rattle.instr.specs.Meaning.{instrOf}
 use Rattle.instr.specs.Stands.{Short, Stands, bindsOf, IsVariable}
 
 module _ (w : List ℕ) (end : ℕ) where
-  short : (q : ℕ) → q ≤ 32768 → upTo 16 (getD w q 0) ≡ fine → Short (listAt w q)
-  short q l e = (omega arith, upTo-fine _ e)
-
-  past-short : (q : ℕ) → upTo 16 (getD w q 0) ≡ fine → pastList w q ≤ q + 33
-  past-short q e = omega (arith, upTo-fine {n = 16} (getD w q 0) e)
+  -- a list among the first six fields is short
+  short : (fs : List Field) (k p : ℕ) → p ≤ 16384 → k ≤ 6 → FieldsOk (sizes w) w end fs (p + 1) → upTo 16 (getD w (past w (take k fs) (p + 1)) 0) ≡ fine → Short (listIn (partAt w (past w (take k fs) (p + 1))))
+  short fs k p l m h e = (omega (arith, place-near w end fs k (p + 1) h), upTo-fine _ e)
 
   -- by opcode
-  stands-by : (op p : ℕ) → p ≤ 16384 → FieldsOk (sizes w) w end (formOf op .fields) (p + 1) → Stands w (instrBy w op p)
-  unfolding formOf after instrBy lookupOrInsertDefaultAt lookupWithDefaultAt lookupAt lookupWithFallbackAt insertAt insertIfEqAt removeAt externalAt externalWithFallbackAt assertEqAt assertNeAt assertAnyNeAt readCounterAt
+  stands-by : (op p : ℕ) → p ≤ 16384 → FieldsOk (sizes w) w end (formOf op .fields) (p + 1) → Stands w (instrBy (λ k. partAt w (past w (take k (formOf op .fields)) (p + 1))) op)
+  unfolding formOf after past instrBy
   stands-by zero p l h = lit< tt
-  stands-by (suc zero) p l h = let k = rw (add-assoc p 1 1) at h in (below-fine _ (k .0), short (p + 2) (omega arith) (k .1 .0 .0), short (pastList w (p + 2)) (omega (arith, past-short (p + 2) (k .1 .0 .0))) (k .1 .1 .0 .0), below-fine _ (k .1 .1 .1 .1 .0))
-  stands-by (suc (suc zero)) p l h = let k = rw (add-assoc p 1 1) at h in (below-fine _ (k .0), short (p + 2) (omega arith) (k .1 .0 .0), below-fine _ (k .1 .1 .1 .0))
-  stands-by (suc (suc (suc zero))) p l h = let k = rw (add-assoc p 1 1) at h in (below-fine _ (k .0), short (p + 2) (omega arith) (k .1 .0 .0), below-fine _ (k .1 .1 .1 .0))
-  stands-by (suc (suc (suc (suc zero)))) p l h = let k = rw (add-assoc p 1 1) at h in (below-fine _ (k .0), short (p + 2) (omega arith) (k .1 .0 .0), short (pastList w (p + 2) + 1) (omega (arith, past-short (p + 2) (k .1 .0 .0))) (k .1 .1 .1 .0 .0), below-fine _ (k .1 .1 .1 .1 .1 .0))
-  stands-by (suc (suc (suc (suc (suc zero))))) p l h = let k = rw (add-assoc p 1 1) at h in (below-fine _ (k .0), short (p + 2) (omega arith) (k .1 .0 .0))
-  stands-by (suc (suc (suc (suc (suc (suc zero)))))) p l h = let k = rw (add-assoc p 1 1, add-assoc p 2 2, add-assoc p 4 2) at h in (below-fine _ (k .0), short (p + 6) (omega arith) (k .1 .1 .1 .0 .0))
-  stands-by (suc (suc (suc (suc (suc (suc (suc zero))))))) p l h = let k = rw (add-assoc p 1 1) at h in (below-fine _ (k .0), short (p + 2) (omega arith) (k .1 .0 .0))
-  stands-by (suc (suc (suc (suc (suc (suc (suc (suc zero)))))))) p l h = let k = rw (add-assoc p 1 1) at h in (short (p + 2) (omega arith) (k .1 .0 .0), below-fine _ (k .1 .1 .0))
-  stands-by (suc (suc (suc (suc (suc (suc (suc (suc (suc zero))))))))) p l h = let k = rw (add-assoc p 1 1) at h in (short (p + 2) (omega arith) (k .1 .0 .0), short (pastList w (p + 2) + 1) (omega (arith, past-short (p + 2) (k .1 .0 .0))) (k .1 .1 .1 .0 .0), below-fine _ (k .1 .1 .1 .1 .0))
+  stands-by (suc zero) p l h = (below-fine _ (h .0), short (formOf 1 .fields) 1 p l (omega arith) h (h .1 .0 .0), short (formOf 1 .fields) 2 p l (omega arith) h (h .1 .1 .0 .0), below-fine _ (h .1 .1 .1 .1 .0))
+  stands-by (suc (suc zero)) p l h = (below-fine _ (h .0), short (formOf 2 .fields) 1 p l (omega arith) h (h .1 .0 .0), below-fine _ (h .1 .1 .1 .0))
+  stands-by (suc (suc (suc zero))) p l h = (below-fine _ (h .0), short (formOf 3 .fields) 1 p l (omega arith) h (h .1 .0 .0), below-fine _ (h .1 .1 .1 .0))
+  stands-by (suc (suc (suc (suc zero)))) p l h = (below-fine _ (h .0), short (formOf 4 .fields) 1 p l (omega arith) h (h .1 .0 .0), short (formOf 4 .fields) 3 p l (omega arith) h (h .1 .1 .1 .0 .0), below-fine _ (h .1 .1 .1 .1 .1 .0))
+  stands-by (suc (suc (suc (suc (suc zero))))) p l h = (below-fine _ (h .0), short (formOf 5 .fields) 1 p l (omega arith) h (h .1 .0 .0))
+  stands-by (suc (suc (suc (suc (suc (suc zero)))))) p l h = (below-fine _ (h .0), short (formOf 6 .fields) 3 p l (omega arith) h (h .1 .1 .1 .0 .0))
+  stands-by (suc (suc (suc (suc (suc (suc (suc zero))))))) p l h = (below-fine _ (h .0), short (formOf 7 .fields) 1 p l (omega arith) h (h .1 .0 .0))
+  stands-by (suc (suc (suc (suc (suc (suc (suc (suc zero)))))))) p l h = (short (formOf 8 .fields) 1 p l (omega arith) h (h .1 .0 .0), below-fine _ (h .1 .1 .0))
+  stands-by (suc (suc (suc (suc (suc (suc (suc (suc (suc zero))))))))) p l h = (short (formOf 9 .fields) 1 p l (omega arith) h (h .1 .0 .0), short (formOf 9 .fields) 3 p l (omega arith) h (h .1 .1 .1 .0 .0), below-fine _ (h .1 .1 .1 .1 .0))
   stands-by (suc (suc (suc (suc (suc (suc (suc (suc (suc (suc zero)))))))))) p l h = tt
   stands-by (suc (suc (suc (suc (suc (suc (suc (suc (suc (suc (suc zero))))))))))) p l h = tt
-  stands-by (suc (suc (suc (suc (suc (suc (suc (suc (suc (suc (suc (suc zero)))))))))))) p l h = let k = rw (add-assoc p 1 1) at h in short (p + 2) (omega arith) (k .1 .0 .0)
-  stands-by (suc (suc (suc (suc (suc (suc (suc (suc (suc (suc (suc (suc (suc zero))))))))))))) p l h = let k = rw (add-assoc p 1 1) at h in below-fine _ (k .1 .0)
+  stands-by (suc (suc (suc (suc (suc (suc (suc (suc (suc (suc (suc (suc zero)))))))))))) p l h = short (formOf 12 .fields) 1 p l (omega arith) h (h .1 .0 .0)
+  stands-by (suc (suc (suc (suc (suc (suc (suc (suc (suc (suc (suc (suc (suc zero))))))))))))) p l h = below-fine _ (h .1 .0)
   stands-by (suc (suc (suc (suc (suc (suc (suc (suc (suc (suc (suc (suc (suc (suc n)))))))))))))) p l h = lit< tt
 
   pub stands : (p : ℕ) → p ≤ 16384 → InstrOk (sizes w) w end p → Stands w (instrAt w p)

@@ -1,11 +1,14 @@
 // Instructions as values, read from a book's words. A list stays in the words: a value holds its place.
+pub mod layout;
+
+use crate::layout::Part;
 use ids::ColumnId;
 use ids::CounterId;
 use ids::ExternalFunctionId;
 use ids::TableId;
 use ids::Variable;
 ghost use mathlib.Core.Path.{_≡_};
-ghost use Prim.Native.Nat.{_+_, _*_, _≤_, _<_};
+ghost use Prim.Native.Nat.{_+_, _≤_, _<_};
 ghost use lib.ListN.{getD};
 ghost use Rattle.model.specs.Book.Decode as decode;
 ghost use Rattle.instr.specs.Instr as specs;
@@ -125,13 +128,13 @@ impl Instr {
     }
 }
 
-impl Entries {
-    // The word past the list.
-    pub fn end(self) -> usize
-        requires { ⌜ (self .at ≤ 1099511627776) × (self .count < 4294967296) ⌝ }
-        ensures { λ r. ⌜ r ≡ self .at + 2 * self .count ⌝ }
-    {
-        self.at + 2 * self.count
+// The entry x by its tag.
+fn entry_of(tag: u32, x: u32) -> QueryEntry
+    ensures { λ r. ⌜ r ≡ specs.entryBy tag x ⌝ }
+{
+    match tag {
+        0 => QueryEntry::Var(Variable(x)),
+        _ => QueryEntry::Const(x),
     }
 }
 
@@ -140,12 +143,7 @@ pub fn entry_at(words: &[u32], p: usize) -> QueryEntry
     requires { ⌜ p ≤ 1099511627776 ⌝ }
     ensures { λ r. ⌜ r ≡ specs.entryAt (now (words .entry)) p ⌝ }
 {
-    let tag = words::word(words, p);
-    let x = words::word(words, p + 1);
-    match tag {
-        0 => QueryEntry::Var(Variable(x)),
-        _ => QueryEntry::Const(x),
-    }
+    entry_of(words::word(words, p), words::word(words, p + 1))
 }
 
 // The write value whose tag stands at p.
@@ -173,192 +171,22 @@ pub fn list_at(words: &[u32], p: usize) -> Entries
     Entries { at: p + 1, count }
 }
 
-fn lookup_or_insert_default_at(words: &[u32], p: usize) -> Instr
-    requires { ⌜ p ≤ 16384 ⌝ }
-    ensures { λ r. ⌜ r ≡ specs.lookupOrInsertDefaultAt (now (words .entry)) p ⌝ }
-{
-    let table = words::word(words, p + 1);
-    let args = list_at(words, p + 2);
-    let default = list_at(words, args.end());
-    let n = default.end();
-    let col = words::word(words, n);
-    let dst = words::word(words, n + 1);
-    Instr::LookupOrInsertDefault {
-        table: TableId(table),
-        args,
-        default,
-        dst_col: ColumnId(col),
-        dst_var: Variable(dst),
+impl Part {
+    // The field as a list.
+    fn list(self) -> Entries
+        ensures { λ r. ⌜ r ≡ specs.listIn self ⌝ }
+    {
+        Entries {
+            at: self.rest,
+            count: words::size(self.first),
+        }
     }
-}
 
-fn lookup_with_default_at(words: &[u32], p: usize) -> Instr
-    requires { ⌜ p ≤ 16384 ⌝ }
-    ensures { λ r. ⌜ r ≡ specs.lookupWithDefaultAt (now (words .entry)) p ⌝ }
-{
-    let table = words::word(words, p + 1);
-    let args = list_at(words, p + 2);
-    let n = args.end();
-    let col = words::word(words, n);
-    let dst = words::word(words, n + 1);
-    let default = entry_at(words, n + 2);
-    Instr::LookupWithDefault {
-        table: TableId(table),
-        args,
-        dst_col: ColumnId(col),
-        dst_var: Variable(dst),
-        default,
-    }
-}
-
-fn lookup_at(words: &[u32], p: usize) -> Instr
-    requires { ⌜ p ≤ 16384 ⌝ }
-    ensures { λ r. ⌜ r ≡ specs.lookupAt (now (words .entry)) p ⌝ }
-{
-    let table = words::word(words, p + 1);
-    let args = list_at(words, p + 2);
-    let n = args.end();
-    let col = words::word(words, n);
-    let dst = words::word(words, n + 1);
-    Instr::Lookup {
-        table: TableId(table),
-        args,
-        dst_col: ColumnId(col),
-        dst_var: Variable(dst),
-    }
-}
-
-fn lookup_with_fallback_at(words: &[u32], p: usize) -> Instr
-    requires { ⌜ p ≤ 16384 ⌝ }
-    ensures { λ r. ⌜ r ≡ specs.lookupWithFallbackAt (now (words .entry)) p ⌝ }
-{
-    let table = words::word(words, p + 1);
-    let table_key = list_at(words, p + 2);
-    let n = table_key.end();
-    let func = words::word(words, n);
-    let func_args = list_at(words, n + 1);
-    let m = func_args.end();
-    let col = words::word(words, m);
-    let dst = words::word(words, m + 1);
-    Instr::LookupWithFallback {
-        table: TableId(table),
-        table_key,
-        func: ExternalFunctionId(func),
-        func_args,
-        dst_col: ColumnId(col),
-        dst_var: Variable(dst),
-    }
-}
-
-fn insert_at(words: &[u32], p: usize) -> Instr
-    requires { ⌜ p ≤ 16384 ⌝ }
-    ensures { λ r. ⌜ r ≡ specs.insertAt (now (words .entry)) p ⌝ }
-{
-    let table = words::word(words, p + 1);
-    let vals = list_at(words, p + 2);
-    Instr::Insert {
-        table: TableId(table),
-        vals,
-    }
-}
-
-fn insert_if_eq_at(words: &[u32], p: usize) -> Instr
-    requires { ⌜ p ≤ 16384 ⌝ }
-    ensures { λ r. ⌜ r ≡ specs.insertIfEqAt (now (words .entry)) p ⌝ }
-{
-    let table = words::word(words, p + 1);
-    let l = entry_at(words, p + 2);
-    let r = entry_at(words, p + 4);
-    let vals = list_at(words, p + 6);
-    Instr::InsertIfEq {
-        table: TableId(table),
-        l,
-        r,
-        vals,
-    }
-}
-
-fn remove_at(words: &[u32], p: usize) -> Instr
-    requires { ⌜ p ≤ 16384 ⌝ }
-    ensures { λ r. ⌜ r ≡ specs.removeAt (now (words .entry)) p ⌝ }
-{
-    let table = words::word(words, p + 1);
-    let args = list_at(words, p + 2);
-    Instr::Remove {
-        table: TableId(table),
-        args,
-    }
-}
-
-fn external_at(words: &[u32], p: usize) -> Instr
-    requires { ⌜ p ≤ 16384 ⌝ }
-    ensures { λ r. ⌜ r ≡ specs.externalAt (now (words .entry)) p ⌝ }
-{
-    let func = words::word(words, p + 1);
-    let args = list_at(words, p + 2);
-    let dst = words::word(words, args.end());
-    Instr::External {
-        func: ExternalFunctionId(func),
-        args,
-        dst: Variable(dst),
-    }
-}
-
-fn external_with_fallback_at(words: &[u32], p: usize) -> Instr
-    requires { ⌜ p ≤ 16384 ⌝ }
-    ensures { λ r. ⌜ r ≡ specs.externalWithFallbackAt (now (words .entry)) p ⌝ }
-{
-    let f1 = words::word(words, p + 1);
-    let args1 = list_at(words, p + 2);
-    let n = args1.end();
-    let f2 = words::word(words, n);
-    let args2 = list_at(words, n + 1);
-    let dst = words::word(words, args2.end());
-    Instr::ExternalWithFallback {
-        f1: ExternalFunctionId(f1),
-        args1,
-        f2: ExternalFunctionId(f2),
-        args2,
-        dst: Variable(dst),
-    }
-}
-
-fn assert_eq_at(words: &[u32], p: usize) -> Instr
-    requires { ⌜ p ≤ 16384 ⌝ }
-    ensures { λ r. ⌜ r ≡ specs.assertEqAt (now (words .entry)) p ⌝ }
-{
-    let l = entry_at(words, p + 1);
-    let r = entry_at(words, p + 3);
-    Instr::AssertEq(l, r)
-}
-
-fn assert_ne_at(words: &[u32], p: usize) -> Instr
-    requires { ⌜ p ≤ 16384 ⌝ }
-    ensures { λ r. ⌜ r ≡ specs.assertNeAt (now (words .entry)) p ⌝ }
-{
-    let l = entry_at(words, p + 1);
-    let r = entry_at(words, p + 3);
-    Instr::AssertNe(l, r)
-}
-
-fn assert_any_ne_at(words: &[u32], p: usize) -> Instr
-    requires { ⌜ p ≤ 16384 ⌝ }
-    ensures { λ r. ⌜ r ≡ specs.assertAnyNeAt (now (words .entry)) p ⌝ }
-{
-    let divider = words::size(words::word(words, p + 1));
-    let ops = list_at(words, p + 2);
-    Instr::AssertAnyNe { ops, divider }
-}
-
-fn read_counter_at(words: &[u32], p: usize) -> Instr
-    requires { ⌜ p ≤ 16384 ⌝ }
-    ensures { λ r. ⌜ r ≡ specs.readCounterAt (now (words .entry)) p ⌝ }
-{
-    let counter = words::word(words, p + 1);
-    let dst = words::word(words, p + 2);
-    Instr::ReadCounter {
-        counter: CounterId(counter),
-        dst: Variable(dst),
+    // The field as an entry.
+    fn entry(self) -> QueryEntry
+        ensures { λ r. ⌜ r ≡ specs.entryIn self ⌝ }
+    {
+        entry_of(self.first, self.second)
     }
 }
 
@@ -367,21 +195,72 @@ pub fn instr_at(words: &[u32], p: usize) -> Instr
     requires { ⌜ p ≤ 16384 ⌝ }
     ensures { λ r. ⌜ r ≡ specs.instrAt (now (words .entry)) p ⌝ }
 {
-    let op = words::word(words, p);
-    match op {
-        1 => lookup_or_insert_default_at(words, p),
-        2 => lookup_with_default_at(words, p),
-        3 => lookup_at(words, p),
-        4 => lookup_with_fallback_at(words, p),
-        5 => insert_at(words, p),
-        6 => insert_if_eq_at(words, p),
-        7 => remove_at(words, p),
-        8 => external_at(words, p),
-        9 => external_with_fallback_at(words, p),
-        10 => assert_eq_at(words, p),
-        11 => assert_ne_at(words, p),
-        12 => assert_any_ne_at(words, p),
-        13 => read_counter_at(words, p),
+    let f = layout::parts_at(words, p).fields;
+    match words::word(words, p) {
+        1 => Instr::LookupOrInsertDefault {
+            table: TableId(f[0].first),
+            args: f[1].list(),
+            default: f[2].list(),
+            dst_col: ColumnId(f[3].first),
+            dst_var: Variable(f[4].first),
+        },
+        2 => Instr::LookupWithDefault {
+            table: TableId(f[0].first),
+            args: f[1].list(),
+            dst_col: ColumnId(f[2].first),
+            dst_var: Variable(f[3].first),
+            default: f[4].entry(),
+        },
+        3 => Instr::Lookup {
+            table: TableId(f[0].first),
+            args: f[1].list(),
+            dst_col: ColumnId(f[2].first),
+            dst_var: Variable(f[3].first),
+        },
+        4 => Instr::LookupWithFallback {
+            table: TableId(f[0].first),
+            table_key: f[1].list(),
+            func: ExternalFunctionId(f[2].first),
+            func_args: f[3].list(),
+            dst_col: ColumnId(f[4].first),
+            dst_var: Variable(f[5].first),
+        },
+        5 => Instr::Insert {
+            table: TableId(f[0].first),
+            vals: f[1].list(),
+        },
+        6 => Instr::InsertIfEq {
+            table: TableId(f[0].first),
+            l: f[1].entry(),
+            r: f[2].entry(),
+            vals: f[3].list(),
+        },
+        7 => Instr::Remove {
+            table: TableId(f[0].first),
+            args: f[1].list(),
+        },
+        8 => Instr::External {
+            func: ExternalFunctionId(f[0].first),
+            args: f[1].list(),
+            dst: Variable(f[2].first),
+        },
+        9 => Instr::ExternalWithFallback {
+            f1: ExternalFunctionId(f[0].first),
+            args1: f[1].list(),
+            f2: ExternalFunctionId(f[2].first),
+            args2: f[3].list(),
+            dst: Variable(f[4].first),
+        },
+        10 => Instr::AssertEq(f[0].entry(), f[1].entry()),
+        11 => Instr::AssertNe(f[0].entry(), f[1].entry()),
+        12 => Instr::AssertAnyNe {
+            ops: f[1].list(),
+            divider: words::size(f[0].first),
+        },
+        13 => Instr::ReadCounter {
+            counter: CounterId(f[0].first),
+            dst: Variable(f[1].first),
+        },
         _ => Instr::ReadCounter {
             counter: CounterId(0),
             dst: Variable(0),
@@ -389,35 +268,10 @@ pub fn instr_at(words: &[u32], p: usize) -> Instr
     }
 }
 
-// The word past the list whose count stands at p.
-fn past_list(words: &[u32], p: usize) -> usize
-    requires { ⌜ p ≤ 1099511627776 ⌝ }
-    ensures { λ r. ⌜ (r ≡ specs.pastList (now (words .entry)) p) × (r ≤ p + 8589934591) ⌝ }
-{
-    let count = words::size(words::word(words, p));
-    p + 1 + 2 * count
-}
-
 // The word past the instruction whose opcode stands at p.
 pub fn next(words: &[u32], p: usize) -> usize
     requires { ⌜ p ≤ 16384 ⌝ }
     ensures { λ r. ⌜ r ≡ decode.next (now (words .entry)) p ⌝ }
 {
-    let op = words::word(words, p);
-    match op {
-        1 => past_list(words, past_list(words, p + 2)) + 2,
-        2 => past_list(words, p + 2) + 4,
-        3 => past_list(words, p + 2) + 2,
-        4 => past_list(words, past_list(words, p + 2) + 1) + 2,
-        5 => past_list(words, p + 2),
-        6 => past_list(words, p + 6),
-        7 => past_list(words, p + 2),
-        8 => past_list(words, p + 2) + 1,
-        9 => past_list(words, past_list(words, p + 2) + 1) + 1,
-        10 => p + 5,
-        11 => p + 5,
-        12 => past_list(words, p + 2),
-        13 => p + 3,
-        _ => p + 1,
-    }
+    layout::parts_at(words, p).next
 }

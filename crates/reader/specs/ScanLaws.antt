@@ -1,18 +1,18 @@
 -- What the code of the walk leans on: each piece of a walk as the code's calls.
-use Prim.Native.Nat.{ℕ, zero, suc, _<_}
+use Prim.Native.Nat.{ℕ, zero, suc}
 use mathlib.Core.Path.{_≡_, refl, sym, ap, _∙_}
 use mathlib.Core.Option.{Option, none, some}
 use mathlib.Core.List.{List, [], _∷_}
-use native.Mathlib.Omega.{arith}
-use lib.ListN.{length, getD, List·getD-eq-default}
+use lib.ListN.{length, getD}
 use Rattle.model.specs.Basics.{iter, found}
 use Rattle.model.specs.Laws.Scan.{walk-bad}
 use Rattle.model.specs.Book.Layout as layout
-use Rattle.model.specs.Book.Layout.{Form, forms, noForm, formOf}
+use Rattle.model.specs.Book.Layout.{formOf}
 use Rattle.model.specs.Book.Scan.{Draw, Scan, bad, good, _▹_, anyWord, upTo, opcode, tag, earliest, Sizes, tagged, peek, step, word, list, pair, field, walk, instr}
-use Rattle.reader.specs.declared.instructions.Field.{Field}
-use Rattle.reader.specs.declared.instructions.Field.the-variants.{Nothing}
-use Rattle.reader.specs.Values.{fieldOf, fieldsOf, walkField}
+use Rattle.instr.specs.declared.layout.Field.{Field}
+use Rattle.instr.specs.declared.layout.Field.the-variants.{Nothing}
+use Rattle.instr.specs.Fields.{fieldOf, fieldsOf}
+use Rattle.reader.specs.Values.{walkField}
 
 pub earliest-kept : (p at : ℕ) → (p ≡ 0 → ⊥) → p ≡ earliest p at
 earliest-kept zero at h = absurd (h refl)
@@ -24,11 +24,6 @@ tagged-rest z (suc zero) a b c = absurd (b refl)
 tagged-rest z (suc (suc zero)) a b c = absurd (c refl)
 tagged-rest z (suc (suc (suc zero))) a b c = refl
 tagged-rest z (suc (suc (suc (suc t)))) a b c = refl
-
-pub fields-rest : (op : ℕ) → (0 < op → 13 < op) → [] ≡ formOf op .fields
-unfolding formOf
-fields-rest zero h = refl
-fields-rest (suc op) h = ap (λ (f : Form). f .fields) (sym (List·getD-eq-default forms noForm {n = op} (omega (arith, h (omega arith)))))
 
 iter-front : {A : Type 0} (f : ℕ → A → A) (n : ℕ) (s : A) → iter f (suc n) s ≡ iter (λ k. f (suc k)) n (f 0 s)
 iter-front f zero s = refl

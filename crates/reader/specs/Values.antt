@@ -1,9 +1,7 @@
 -- The code's values as the model's.
 use Prim.Native.Nat.{ℕ}
-use mathlib.Core.Option.{Option, none, some}
-use mathlib.Core.List.{List, [], _∷_}
+use mathlib.Core.List.{List}
 use Rattle.model.specs.Basics.{found}
-use Rattle.model.specs.Book.Layout as layout
 use Rattle.model.specs.Book.Scan as spec
 use Rattle.contents.specs.declared.Contents.{Contents}
 use Rattle.reader.specs.declared.scan.Draw.{Draw}
@@ -12,8 +10,8 @@ use Rattle.reader.specs.declared.scan.Test.{Test}
 use Rattle.reader.specs.declared.scan.Test.the-variants.{Any, Clean, Below, UpTo, Range}
 use Rattle.reader.specs.declared.scan.Scan.{Scan}
 use Rattle.reader.specs.declared.scan.Scan.the-variants.{Bad, Good}
-use Rattle.reader.specs.declared.instructions.Field.{Field}
-use Rattle.reader.specs.declared.instructions.Field.the-variants.{Nothing, Table, Counter, Function, Dst, Column, Divider, Entry, Entries, Writes}
+use Rattle.instr.specs.declared.layout.Field.{Field}
+use Rattle.instr.specs.Fields.{fieldOf}
 
 abbrev pub drawOf : Draw → spec.Draw
 drawOf Fine = spec.fine
@@ -35,24 +33,6 @@ scanOf (Good at p q) = spec.good at p q
 abbrev pub sizesOf : Contents → spec.Sizes
 sizesOf z = record { tables = z .tables; counters = z .counters; rules = z .rules }
 
--- ## Fields
-
-abbrev pub fieldOf : Field → Option layout.Field
-fieldOf Nothing = none
-fieldOf Table = some layout.table
-fieldOf Counter = some layout.counter
-fieldOf Function = some layout.function
-fieldOf Dst = some layout.dst
-fieldOf Column = some layout.column
-fieldOf Divider = some layout.divider
-fieldOf Entry = some layout.entry
-fieldOf Entries = some layout.entries
-fieldOf Writes = some layout.writes
-
-abbrev pub fieldsOf : List Field → List layout.Field
-fieldsOf [] = []
-fieldsOf (f ∷ fs) = found (fieldOf f) (λ g. g ∷ fieldsOf fs) (λ _. fieldsOf fs)
-
--- past one of them
+-- past a field
 abbrev pub walkField : (end : ℕ) (w : List ℕ) (z : spec.Sizes) → Field → spec.Scan → spec.Scan
 walkField end w z f s = found (fieldOf f) (λ g. spec.field end w z g s) (λ _. s)

@@ -1,27 +1,13 @@
 // Entries, fields and instructions.
 ghost use mathlib.Core.Path.{_≡_};
-ghost use Rattle.model.specs.Book.Layout as layout;
 ghost use Rattle.model.specs.Book.Scan as spec;
-ghost use Rattle.reader.specs.Values.{testOf, scanOf, sizesOf, fieldsOf, walkField};
+ghost use Rattle.reader.specs.Values.{testOf, scanOf, sizesOf, walkField};
 use crate::scan;
 use crate::scan::Scan;
 use crate::scan::Test;
-use Field::*;
 use contents::Contents;
-
-// What a field of an instruction holds; nothing past its last field.
-enum Field {
-    Nothing,
-    Table,
-    Counter,
-    Function,
-    Dst,
-    Column,
-    Divider,
-    Entry,
-    Entries,
-    Writes,
-}
+use instr::layout;
+use instr::layout::Field;
 
 // What the word after a tag has to be: the number of a variable, a constant, the number of a counter, or any column.
 fn tagged(sizes: Contents, tag: u32) -> Test
@@ -68,38 +54,16 @@ fn walk_field(end: usize, words: &[u32], sizes: Contents, f: Field, s: Scan) -> 
     ensures { λ r. ⌜ scanOf r ≡ walkField end (now (words .entry)) (sizesOf sizes) f (scanOf s) ⌝ }
 {
     match f {
-        Nothing => s,
-        Table => scan::word(end, words, Test::Below(sizes.tables), s),
-        Counter => scan::word(end, words, Test::Below(sizes.counters), s),
-        Function => scan::word(end, words, Test::Below(8), s),
-        Dst => scan::word(end, words, Test::Below(32), s),
-        Column => scan::word(end, words, Test::Any, s),
-        Divider => scan::word(end, words, Test::Any, s),
-        Entry => pair(end, words, sizes, 0, 1, s),
-        Entries => pairs(end, words, sizes, 0, 1, s),
-        Writes => pairs(end, words, sizes, 0, 3, s),
-    }
-}
-
-// The fields of an instruction by its opcode.
-fn fields(op: u32) -> [Field; 6]
-    ensures { λ r. ⌜ fieldsOf r ≡ layout.formOf op .fields ⌝ }
-{
-    match op {
-        1 => [Table, Entries, Writes, Column, Dst, Nothing],
-        2 => [Table, Entries, Column, Dst, Entry, Nothing],
-        3 => [Table, Entries, Column, Dst, Nothing, Nothing],
-        4 => [Table, Entries, Function, Entries, Column, Dst],
-        5 => [Table, Entries, Nothing, Nothing, Nothing, Nothing],
-        6 => [Table, Entry, Entry, Entries, Nothing, Nothing],
-        7 => [Table, Entries, Nothing, Nothing, Nothing, Nothing],
-        8 => [Function, Entries, Dst, Nothing, Nothing, Nothing],
-        9 => [Function, Entries, Function, Entries, Dst, Nothing],
-        10 => [Entry, Entry, Nothing, Nothing, Nothing, Nothing],
-        11 => [Entry, Entry, Nothing, Nothing, Nothing, Nothing],
-        12 => [Divider, Entries, Nothing, Nothing, Nothing, Nothing],
-        13 => [Counter, Dst, Nothing, Nothing, Nothing, Nothing],
-        _ => [Nothing, Nothing, Nothing, Nothing, Nothing, Nothing],
+        Field::Nothing => s,
+        Field::Table => scan::word(end, words, Test::Below(sizes.tables), s),
+        Field::Counter => scan::word(end, words, Test::Below(sizes.counters), s),
+        Field::Function => scan::word(end, words, Test::Below(8), s),
+        Field::Dst => scan::word(end, words, Test::Below(32), s),
+        Field::Column => scan::word(end, words, Test::Any, s),
+        Field::Divider => scan::word(end, words, Test::Any, s),
+        Field::Entry => pair(end, words, sizes, 0, 1, s),
+        Field::Entries => pairs(end, words, sizes, 0, 1, s),
+        Field::Writes => pairs(end, words, sizes, 0, 3, s),
     }
 }
 
@@ -107,7 +71,7 @@ fn fields(op: u32) -> [Field; 6]
 fn instr(end: usize, words: &[u32], sizes: Contents, s: Scan) -> Scan
     ensures { λ r. ⌜ scanOf r ≡ spec.instr end (now (words .entry)) (sizesOf sizes) (scanOf s) ⌝ }
 {
-    let fs = fields(scan::peek(words, s));
+    let fs = layout::fields(scan::peek(words, s));
     let mut t = scan::word(end, words, Test::Range(1, 13), s);
     let mut k = 0;
     while k < 6 {

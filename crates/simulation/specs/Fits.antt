@@ -6,13 +6,12 @@ use lib.Dec.{ltb, leb}
 use borrow.Author.Tests.{leb-true}
 use Rattle.model.specs.Laws.Logic.{and-split}
 use mathlib.Core.List.{List}
-use native.Mathlib.Nat.{add-assoc}
 use native.Mathlib.Omega.{arith}
-use lib.ListN.{getD}
-use Rattle.model.specs.Book.Layout.{entries, writes, formOf}
+use lib.ListN.{getD, take}
+use Rattle.model.specs.Book.Layout.{Field, entries, writes, formOf}
 use Rattle.model.specs.Book.Contents.{tableCount, counterCount}
 use Rattle.model.specs.Book.Scan.{fine, three, upTo, tagged, opcode}
-use Rattle.model.specs.Book.Decode.{after}
+use Rattle.model.specs.Book.Decode.{after, past}
 use Rattle.model.specs.Book.Read.{sizes}
 use Rattle.model.specs.Laws.Scan.{PairOk, FieldOk, FieldsOk, InstrOk, upTo-fine, below-fine}
 use Rattle.model.specs.Laws.Book.{Readable}
@@ -21,7 +20,9 @@ use Rattle.bindings.specs.BindingLaws.{Named, entry-named, entries-named}
 use Rattle.instr.specs.declared.Entries.{Entries}
 use Rattle.instr.specs.declared.Instr.{Instr}
 use Rattle.instr.specs.declared.Instr.the-variants.{LookupOrInsertDefault, LookupWithDefault, Lookup, LookupWithFallback, Insert, InsertIfEq, Remove, External, ExternalWithFallback, AssertEq, AssertNe, AssertAnyNe, ReadCounter}
-use Rattle.instr.specs.Instr.{writeBy, entryAt, writeAt, listAt, pastList, instrBy, instrAt, lookupOrInsertDefaultAt, lookupWithDefaultAt, lookupAt, lookupWithFallbackAt, insertAt, insertIfEqAt, removeAt, externalAt, externalWithFallbackAt, assertEqAt, assertNeAt, assertAnyNeAt, readCounterAt}
+use Rattle.instr.specs.Fields.{partAt}
+use Rattle.instr.specs.FieldLaws.{place-near}
+use Rattle.instr.specs.Instr.{writeBy, entryAt, writeAt, listAt, instrBy, instrAt}
 use Rattle.instr.specs.InstrLaws.{entry-at}
 use Rattle.instr.specs.Meaning.{entryOf}
 use Rattle.instr.specs.Stands.{Short}
@@ -85,26 +86,23 @@ module _ (w : List ℕ) (h : Readable w) where
     writes-at : (p : ℕ) → p ≤ 32768 → FieldOk (sizes w) w end writes p → Writes w (listAt w p)
     writes-at p l e = ((omega arith, upTo-fine (getD w p 0) (e .0)), λ k q. writable-at 0 3 (p + 1 + 2 * k) (e .1 k q))
 
-    past-short : (q : ℕ) → upTo 16 (getD w q 0) ≡ fine → pastList w q ≤ q + 33
-    past-short q e = omega (arith, upTo-fine {n = 16} (getD w q 0) e)
-
     -- by opcode
-    fits-by : (op p : ℕ) → p ≤ 16384 → opcode op ≡ fine → FieldsOk (sizes w) w end (formOf op .fields) (p + 1) → Fits w (instrBy w op p)
-    unfolding formOf after instrBy lookupOrInsertDefaultAt lookupWithDefaultAt lookupAt lookupWithFallbackAt insertAt insertIfEqAt removeAt externalAt externalWithFallbackAt assertEqAt assertNeAt assertAnyNeAt readCounterAt
+    fits-by : (op p : ℕ) → p ≤ 16384 → opcode op ≡ fine → FieldsOk (sizes w) w end (formOf op .fields) (p + 1) → Fits w (instrBy (λ k. partAt w (past w (take k (formOf op .fields)) (p + 1))) op)
+    unfolding formOf after past instrBy
     fits-by zero p l o h = absurd (draw-clash o)
-    fits-by (suc zero) p l o h = let k = rw (add-assoc p 1 1) at h in (table-ok _ (below-fine _ (k .0)), reads-at (p + 2) (omega arith) (k .1 .0), writes-at (pastList w (p + 2)) (omega (arith, past-short (p + 2) (k .1 .0 .0))) (k .1 .1 .0), below-fine _ (k .1 .1 .1 .1 .0))
-    fits-by (suc (suc zero)) p l o h = let k = rw (add-assoc p 1 1, add-assoc (pastList w (p + 2)) 1 1) at h in (table-ok _ (below-fine _ (k .0)), reads-at (p + 2) (omega arith) (k .1 .0), named-at 0 1 (pastList w (p + 2) + 2) (k .1 .1 .1 .1 .0), below-fine _ (k .1 .1 .1 .0))
-    fits-by (suc (suc (suc zero))) p l o h = let k = rw (add-assoc p 1 1) at h in (table-ok _ (below-fine _ (k .0)), reads-at (p + 2) (omega arith) (k .1 .0), below-fine _ (k .1 .1 .1 .0))
-    fits-by (suc (suc (suc (suc zero)))) p l o h = let k = rw (add-assoc p 1 1) at h in (table-ok _ (below-fine _ (k .0)), reads-at (p + 2) (omega arith) (k .1 .0), reads-at (pastList w (p + 2) + 1) (omega (arith, past-short (p + 2) (k .1 .0 .0))) (k .1 .1 .1 .0), below-fine _ (k .1 .1 .1 .1 .1 .0))
-    fits-by (suc (suc (suc (suc (suc zero))))) p l o h = let k = rw (add-assoc p 1 1) at h in (table-ok _ (below-fine _ (k .0)), reads-at (p + 2) (omega arith) (k .1 .0))
-    fits-by (suc (suc (suc (suc (suc (suc zero)))))) p l o h = let k = rw (add-assoc p 1 1, add-assoc p 2 2, add-assoc p 4 2) at h in (table-ok _ (below-fine _ (k .0)), named-at 0 1 (p + 2) (k .1 .0), named-at 0 1 (p + 4) (k .1 .1 .0), reads-at (p + 6) (omega arith) (k .1 .1 .1 .0))
-    fits-by (suc (suc (suc (suc (suc (suc (suc zero))))))) p l o h = let k = rw (add-assoc p 1 1) at h in (table-ok _ (below-fine _ (k .0)), reads-at (p + 2) (omega arith) (k .1 .0))
-    fits-by (suc (suc (suc (suc (suc (suc (suc (suc zero)))))))) p l o h = let k = rw (add-assoc p 1 1) at h in (reads-at (p + 2) (omega arith) (k .1 .0), below-fine _ (k .1 .1 .0))
-    fits-by (suc (suc (suc (suc (suc (suc (suc (suc (suc zero))))))))) p l o h = let k = rw (add-assoc p 1 1) at h in (reads-at (p + 2) (omega arith) (k .1 .0), reads-at (pastList w (p + 2) + 1) (omega (arith, past-short (p + 2) (k .1 .0 .0))) (k .1 .1 .1 .0), below-fine _ (k .1 .1 .1 .1 .0))
-    fits-by (suc (suc (suc (suc (suc (suc (suc (suc (suc (suc zero)))))))))) p l o h = let k = rw (add-assoc p 1 2) at h in (named-at 0 1 (p + 1) (k .0), named-at 0 1 (p + 3) (k .1 .0))
-    fits-by (suc (suc (suc (suc (suc (suc (suc (suc (suc (suc (suc zero))))))))))) p l o h = let k = rw (add-assoc p 1 2) at h in (named-at 0 1 (p + 1) (k .0), named-at 0 1 (p + 3) (k .1 .0))
-    fits-by (suc (suc (suc (suc (suc (suc (suc (suc (suc (suc (suc (suc zero)))))))))))) p l o h = let k = rw (add-assoc p 1 1) at h in reads-at (p + 2) (omega arith) (k .1 .0)
-    fits-by (suc (suc (suc (suc (suc (suc (suc (suc (suc (suc (suc (suc (suc zero))))))))))))) p l o h = let k = rw (add-assoc p 1 1) at h in (below-fine _ (k .0), below-fine _ (k .1 .0))
+    fits-by (suc zero) p l o h = (table-ok _ (below-fine _ (h .0)), reads-at _ (omega (arith, place-near w end (formOf 1 .fields) 1 (p + 1) h)) (h .1 .0), writes-at _ (omega (arith, place-near w end (formOf 1 .fields) 2 (p + 1) h)) (h .1 .1 .0), below-fine _ (h .1 .1 .1 .1 .0))
+    fits-by (suc (suc zero)) p l o h = (table-ok _ (below-fine _ (h .0)), reads-at _ (omega (arith, place-near w end (formOf 2 .fields) 1 (p + 1) h)) (h .1 .0), named-at 0 1 _ (h .1 .1 .1 .1 .0), below-fine _ (h .1 .1 .1 .0))
+    fits-by (suc (suc (suc zero))) p l o h = (table-ok _ (below-fine _ (h .0)), reads-at _ (omega (arith, place-near w end (formOf 3 .fields) 1 (p + 1) h)) (h .1 .0), below-fine _ (h .1 .1 .1 .0))
+    fits-by (suc (suc (suc (suc zero)))) p l o h = (table-ok _ (below-fine _ (h .0)), reads-at _ (omega (arith, place-near w end (formOf 4 .fields) 1 (p + 1) h)) (h .1 .0), reads-at _ (omega (arith, place-near w end (formOf 4 .fields) 3 (p + 1) h)) (h .1 .1 .1 .0), below-fine _ (h .1 .1 .1 .1 .1 .0))
+    fits-by (suc (suc (suc (suc (suc zero))))) p l o h = (table-ok _ (below-fine _ (h .0)), reads-at _ (omega (arith, place-near w end (formOf 5 .fields) 1 (p + 1) h)) (h .1 .0))
+    fits-by (suc (suc (suc (suc (suc (suc zero)))))) p l o h = (table-ok _ (below-fine _ (h .0)), named-at 0 1 _ (h .1 .0), named-at 0 1 _ (h .1 .1 .0), reads-at _ (omega (arith, place-near w end (formOf 6 .fields) 3 (p + 1) h)) (h .1 .1 .1 .0))
+    fits-by (suc (suc (suc (suc (suc (suc (suc zero))))))) p l o h = (table-ok _ (below-fine _ (h .0)), reads-at _ (omega (arith, place-near w end (formOf 7 .fields) 1 (p + 1) h)) (h .1 .0))
+    fits-by (suc (suc (suc (suc (suc (suc (suc (suc zero)))))))) p l o h = (reads-at _ (omega (arith, place-near w end (formOf 8 .fields) 1 (p + 1) h)) (h .1 .0), below-fine _ (h .1 .1 .0))
+    fits-by (suc (suc (suc (suc (suc (suc (suc (suc (suc zero))))))))) p l o h = (reads-at _ (omega (arith, place-near w end (formOf 9 .fields) 1 (p + 1) h)) (h .1 .0), reads-at _ (omega (arith, place-near w end (formOf 9 .fields) 3 (p + 1) h)) (h .1 .1 .1 .0), below-fine _ (h .1 .1 .1 .1 .0))
+    fits-by (suc (suc (suc (suc (suc (suc (suc (suc (suc (suc zero)))))))))) p l o h = (named-at 0 1 _ (h .0), named-at 0 1 _ (h .1 .0))
+    fits-by (suc (suc (suc (suc (suc (suc (suc (suc (suc (suc (suc zero))))))))))) p l o h = (named-at 0 1 _ (h .0), named-at 0 1 _ (h .1 .0))
+    fits-by (suc (suc (suc (suc (suc (suc (suc (suc (suc (suc (suc (suc zero)))))))))))) p l o h = reads-at _ (omega (arith, place-near w end (formOf 12 .fields) 1 (p + 1) h)) (h .1 .0)
+    fits-by (suc (suc (suc (suc (suc (suc (suc (suc (suc (suc (suc (suc (suc zero))))))))))))) p l o h = (below-fine _ (h .0), below-fine _ (h .1 .0))
     fits-by (suc (suc (suc (suc (suc (suc (suc (suc (suc (suc (suc (suc (suc (suc n)))))))))))))) p l o h = absurd (omega (arith, is-opcode (suc (suc (suc (suc (suc (suc (suc (suc (suc (suc (suc (suc (suc (suc n)))))))))))))) o))
 
     pub fits : (p : ℕ) → p ≤ 16384 → InstrOk (sizes w) w end p → Fits w (instrAt w p)

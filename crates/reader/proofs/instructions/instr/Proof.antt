@@ -31,7 +31,7 @@ returns c =
     let e : l .k ≡ 6 = omega arith in
     let fs = c .before .before .before .fields in
     let n : length (fs .result) ≡ 6 = search needs in
-    l .inv .1 ∙ rw (e, c .before .before .word .ensures, instr-is _ _ _ _ (fs .result) n (rw (peek .ensures) at (fs .ensures)))
+    l .inv .1 ∙ rw (e, c .before .before .word .ensures, instr-is _ _ _ _ (fs .result) n (rw (peek .ensures) at (fs .ensures .0)))
 
 pub instr-spec : {M : Type 1} → statement M
 instr-spec =
