@@ -2,6 +2,7 @@
 use Prim.Native.Nat.{ℕ, zero, suc, _+_}
 use mathlib.Core.List.{List, [], _∷_}
 use lib.ListN.{getD}
+use Rattle.model.specs.Basics.{tab}
 use Rattle.model.specs.Book.Decode.{fieldPlace}
 use Rattle.instr.specs.Fields.{partAt}
 use Rattle.instr.specs.declared.layout.Part.{Part}
@@ -46,11 +47,15 @@ listIn f = record { at = f .rest; count = f .first }
 abbrev pub noInstr : Instr
 noInstr = ReadCounter (record { 0 = 0 }) (record { 0 = 0 })
 
-module _ (f : ℕ → Part) where
-  -- the instruction whose field k (from 0) is f k: one line for each opcode, from 1. n k is the field as a number
+module _ (fs : List Part) where
+  -- field k (from 0), and as a number
+  abbrev f : ℕ → Part
+  f k = getD fs k (record { first = 0; second = 0; rest = 0 })
+
   abbrev n : ℕ → ℕ
   n k = f k .first
 
+  -- the instruction with these fields: one line for each opcode, from 1
   abbrev pub made : List Instr
   made =
       LookupOrInsertDefault (record { 0 = n 0 }) (listIn (f 1)) (listIn (f 2)) (record { 0 = n 3 }) (record { 0 = n 4 })
@@ -73,4 +78,4 @@ module _ (f : ℕ → Part) where
 
 -- the instruction whose opcode stands at p
 abbrev pub instrAt : List ℕ → ℕ → Instr
-instrAt w p = instrBy (λ k. partAt w (fieldPlace w p k)) (getD w p 0)
+instrAt w p = instrBy (tab (λ k. partAt w (fieldPlace w p k)) 6) (getD w p 0)

@@ -1,12 +1,11 @@
 -- What is read is what the model reads.
-use Prim.Native.Nat.{ℕ, zero, suc, _+_, _*_, _<_}
+use Prim.Native.Nat.{ℕ, zero, suc, _+_, _<_}
 use mathlib.Core.Path.{_≡_, refl, sym, ap, _∙_}
 use mathlib.Core.List.{List, _∷_, map}
 use native.Mathlib.Omega.{arith}
 use lib.ListN.{length, getD, List·getD-eq-default, List·getD-map}
+use Rattle.model.specs.Basics.{tab}
 use Rattle.model.specs.Book.Syntax as syntax
-use Rattle.model.specs.Book.Syntax.{QueryEntry, WriteVal}
-use Rattle.model.specs.Laws.Lists.{getD-tab}
 use Rattle.model.specs.Book.Layout.{Form, forms, noForm, formOf}
 use Rattle.model.specs.Book.Decode as decode
 use Rattle.instr.specs.Fields.{partAt}
@@ -14,8 +13,7 @@ use Rattle.instr.specs.Instr.{entryBy, writeBy, entryAt, writeAt, made, 
 use Rattle.instr.specs.declared.layout.Part.{Part}
 use Rattle.instr.specs.declared.QueryEntry.the-variants.{Const}
 use Rattle.instr.specs.declared.WriteVal.the-variants.{CurrentVal}
-use Rattle.instr.specs.declared.Entries.{Entries}
-use Rattle.instr.specs.Meaning.{entryOf, writeOf, entriesOf, writesOf, instrOf}
+use Rattle.instr.specs.Meaning.{entryOf, writeOf, instrOf}
 
 pub entry-by : (t x : ℕ) → entryOf (entryBy t x) ≡ decode.entryOf t x
 unfolding entryBy
@@ -56,9 +54,9 @@ outside : {A : Type 0} (d : A) (l : List A) (x : ℕ) → NoneOf (length l) x �
 outside d l zero h = refl
 outside d l (suc x) h = sym (List·getD-eq-default l d {n = x} (omega (arith, none-of (length l) (suc x) h (omega arith))))
 
-pub instr-rest : (f : ℕ → Part) (op : ℕ) → NoneOf 13 op → noInstr ≡ instrBy f op
+pub instr-rest : (fs : List Part) (op : ℕ) → NoneOf 13 op → noInstr ≡ instrBy fs op
 unfolding instrBy
-instr-rest f op h = outside noInstr (made f) op h
+instr-rest fs op h = outside noInstr (made fs) op h
 
 pub fields-rest : (op : ℕ) → NoneOf 13 op → noForm ≡ formOf op
 unfolding formOf
@@ -70,8 +68,8 @@ module _ (w : List ℕ) where
   abbrev byForm : (at : ℕ → ℕ) → Form → syntax.Instr
   byForm at f = f .make (λ k. getD w (at k) 0) (λ k. decode.entryAt w (at k)) (λ k. decode.entriesAt w (at k)) (λ k. decode.writesAt w (at k))
 
-  lines : (at : ℕ → ℕ) → map (instrOf w) (noInstr ∷ made (λ k. partAt w (at k))) ≡ map (byForm at) (noForm ∷ forms)
-  unfolding instrOf
+  lines : (at : ℕ → ℕ) → map (instrOf w) (noInstr ∷ made (tab (λ k. partAt w (at k)) 6)) ≡ map (byForm at) (noForm ∷ forms)
+  unfolding instrOf tab
   lines at = simp entry-by
 
   pub instr-at : (p : ℕ) → instrOf w (instrAt w p) ≡ decode.instrAt w p
@@ -79,7 +77,7 @@ module _ (w : List ℕ) where
   instr-at p =
       let at = decode.fieldPlace w p in
       let op = getD w p 0 in
-      sym (List·getD-map (instrOf w) (noInstr ∷ made (λ k. partAt w (at k))) op noInstr)
+      sym (List·getD-map (instrOf w) (noInstr ∷ made (tab (λ k. partAt w (at k)) 6)) op noInstr)
       ∙ ap (λ l. getD l op (instrOf w noInstr)) (lines at)
       ∙ List·getD-map (byForm at) (noForm ∷ forms) op noForm
 
@@ -90,10 +88,3 @@ module _ (w : List ℕ) where
 
   pub write-at : (p : ℕ) → writeOf (writeAt w p) ≡ decode.writeAt w p
   write-at p = write-by (getD w p 0) (getD w (p + 1) 0)
-
-  -- entry k of a list, and write value k
-  pub entries-at : (l : Entries) (k : ℕ) (d : QueryEntry) → k < l .count → getD (entriesOf w l) k d ≡ entryOf (entryAt w (l .at + 2 * k))
-  entries-at l k d h = getD-tab _ (l .count) k d h ∙ sym (entry-at (l .at + 2 * k))
-
-  pub writes-at : (l : Entries) (k : ℕ) (d : WriteVal) → k < l .count → getD (writesOf w l) k d ≡ writeOf (writeAt w (l .at + 2 * k))
-  writes-at l k d h = getD-tab _ (l .count) k d h ∙ sym (write-at (l .at + 2 * k))

@@ -6,6 +6,7 @@ use native.Mathlib.Omega.{arith}
 use lib.Dec.{lit<}
 use lib.ListN.{getD, take}
 use Rattle.model.specs.Book.Syntax.{dstOf}
+use Rattle.model.specs.Basics.{tab}
 use Rattle.model.specs.Book.Layout.{Field, formOf}
 use Rattle.model.specs.Book.Scan.{fine, upTo}
 use Rattle.model.specs.Book.Decode.{after, past}
@@ -25,8 +26,8 @@ module _ (w : List ℕ) (end : ℕ) where
   short fs k p l m h e = (omega (arith, place-near w end fs k (p + 1) h), upTo-fine _ e)
 
   -- by opcode
-  stands-by : (op p : ℕ) → p ≤ 16384 → FieldsOk (sizes w) w end (formOf op .fields) (p + 1) → Stands w (instrBy (λ k. partAt w (past w (take k (formOf op .fields)) (p + 1))) op)
-  unfolding formOf after past instrBy
+  stands-by : (op p : ℕ) → p ≤ 16384 → FieldsOk (sizes w) w end (formOf op .fields) (p + 1) → Stands w (instrBy (tab (λ k. partAt w (past w (take k (formOf op .fields)) (p + 1))) 6) op)
+  unfolding formOf after past instrBy tab
   stands-by zero p l h = lit< tt
   stands-by (suc zero) p l h = (below-fine _ (h .0), short (formOf 1 .fields) 1 p l (omega arith) h (h .1 .0 .0), short (formOf 1 .fields) 2 p l (omega arith) h (h .1 .1 .0 .0), below-fine _ (h .1 .1 .1 .1 .0))
   stands-by (suc (suc zero)) p l h = (below-fine _ (h .0), short (formOf 2 .fields) 1 p l (omega arith) h (h .1 .0 .0), below-fine _ (h .1 .1 .1 .0))

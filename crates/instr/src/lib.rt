@@ -9,7 +9,7 @@ use ids::TableId;
 use ids::Variable;
 ghost use mathlib.Core.Path.{_≡_};
 ghost use Prim.Native.Nat.{_+_, _≤_, _<_};
-ghost use lib.ListN.{getD};
+ghost use mathlib.Core.List.{[], _∷_};
 ghost use Rattle.model.specs.Book.Decode as decode;
 ghost use Rattle.instr.specs.Instr as specs;
 ghost use Rattle.instr.specs.Stands.{bindsOf, variableOf};
@@ -190,82 +190,97 @@ impl Part {
     }
 }
 
-// The instruction whose opcode stands at p.
-pub fn instr_at(words: &[u32], p: usize) -> Instr
-    requires { ⌜ p ≤ 16384 ⌝ }
-    ensures { λ r. ⌜ r ≡ specs.instrAt (now (words .entry)) p ⌝ }
+// The instruction of an opcode by its fields.
+fn instr_of(op: u32, f0: Part, f1: Part, f2: Part, f3: Part, f4: Part, f5: Part) -> Instr
+    ensures { λ r. ⌜ r ≡ specs.instrBy (f0 ∷ f1 ∷ f2 ∷ f3 ∷ f4 ∷ f5 ∷ []) op ⌝ }
 {
-    let f = layout::parts_at(words, p).fields;
-    match words::word(words, p) {
+    // What some opcode has as a list, or as an entry.
+    let list1 = f1.list();
+    let list2 = f2.list();
+    let list3 = f3.list();
+    let entry0 = f0.entry();
+    let entry1 = f1.entry();
+    let entry2 = f2.entry();
+    let entry4 = f4.entry();
+    match op {
         1 => Instr::LookupOrInsertDefault {
-            table: TableId(f[0].first),
-            args: f[1].list(),
-            default: f[2].list(),
-            dst_col: ColumnId(f[3].first),
-            dst_var: Variable(f[4].first),
+            table: TableId(f0.first),
+            args: list1,
+            default: list2,
+            dst_col: ColumnId(f3.first),
+            dst_var: Variable(f4.first),
         },
         2 => Instr::LookupWithDefault {
-            table: TableId(f[0].first),
-            args: f[1].list(),
-            dst_col: ColumnId(f[2].first),
-            dst_var: Variable(f[3].first),
-            default: f[4].entry(),
+            table: TableId(f0.first),
+            args: list1,
+            dst_col: ColumnId(f2.first),
+            dst_var: Variable(f3.first),
+            default: entry4,
         },
         3 => Instr::Lookup {
-            table: TableId(f[0].first),
-            args: f[1].list(),
-            dst_col: ColumnId(f[2].first),
-            dst_var: Variable(f[3].first),
+            table: TableId(f0.first),
+            args: list1,
+            dst_col: ColumnId(f2.first),
+            dst_var: Variable(f3.first),
         },
         4 => Instr::LookupWithFallback {
-            table: TableId(f[0].first),
-            table_key: f[1].list(),
-            func: ExternalFunctionId(f[2].first),
-            func_args: f[3].list(),
-            dst_col: ColumnId(f[4].first),
-            dst_var: Variable(f[5].first),
+            table: TableId(f0.first),
+            table_key: list1,
+            func: ExternalFunctionId(f2.first),
+            func_args: list3,
+            dst_col: ColumnId(f4.first),
+            dst_var: Variable(f5.first),
         },
         5 => Instr::Insert {
-            table: TableId(f[0].first),
-            vals: f[1].list(),
+            table: TableId(f0.first),
+            vals: list1,
         },
         6 => Instr::InsertIfEq {
-            table: TableId(f[0].first),
-            l: f[1].entry(),
-            r: f[2].entry(),
-            vals: f[3].list(),
+            table: TableId(f0.first),
+            l: entry1,
+            r: entry2,
+            vals: list3,
         },
         7 => Instr::Remove {
-            table: TableId(f[0].first),
-            args: f[1].list(),
+            table: TableId(f0.first),
+            args: list1,
         },
         8 => Instr::External {
-            func: ExternalFunctionId(f[0].first),
-            args: f[1].list(),
-            dst: Variable(f[2].first),
+            func: ExternalFunctionId(f0.first),
+            args: list1,
+            dst: Variable(f2.first),
         },
         9 => Instr::ExternalWithFallback {
-            f1: ExternalFunctionId(f[0].first),
-            args1: f[1].list(),
-            f2: ExternalFunctionId(f[2].first),
-            args2: f[3].list(),
-            dst: Variable(f[4].first),
+            f1: ExternalFunctionId(f0.first),
+            args1: list1,
+            f2: ExternalFunctionId(f2.first),
+            args2: list3,
+            dst: Variable(f4.first),
         },
-        10 => Instr::AssertEq(f[0].entry(), f[1].entry()),
-        11 => Instr::AssertNe(f[0].entry(), f[1].entry()),
+        10 => Instr::AssertEq(entry0, entry1),
+        11 => Instr::AssertNe(entry0, entry1),
         12 => Instr::AssertAnyNe {
-            ops: f[1].list(),
-            divider: words::size(f[0].first),
+            ops: list1,
+            divider: words::size(f0.first),
         },
         13 => Instr::ReadCounter {
-            counter: CounterId(f[0].first),
-            dst: Variable(f[1].first),
+            counter: CounterId(f0.first),
+            dst: Variable(f1.first),
         },
         _ => Instr::ReadCounter {
             counter: CounterId(0),
             dst: Variable(0),
         },
     }
+}
+
+// The instruction whose opcode stands at p.
+pub fn instr_at(words: &[u32], p: usize) -> Instr
+    requires { ⌜ p ≤ 16384 ⌝ }
+    ensures { λ r. ⌜ r ≡ specs.instrAt (now (words .entry)) p ⌝ }
+{
+    let f = layout::parts_at(words, p).fields;
+    instr_of(words::word(words, p), f[0], f[1], f[2], f[3], f[4], f[5])
 }
 
 // The word past the instruction whose opcode stands at p.

@@ -8,6 +8,7 @@ use Rattle.model.specs.Laws.Logic.{and-split}
 use mathlib.Core.List.{List}
 use native.Mathlib.Omega.{arith}
 use lib.ListN.{getD, take}
+use Rattle.model.specs.Basics.{tab}
 use Rattle.model.specs.Book.Layout.{Field, entries, writes, formOf}
 use Rattle.model.specs.Book.Contents.{tableCount, counterCount}
 use Rattle.model.specs.Book.Scan.{fine, three, upTo, tagged, opcode}
@@ -87,8 +88,8 @@ module _ (w : List ℕ) (h : Readable w) where
     writes-at p l e = ((omega arith, upTo-fine (getD w p 0) (e .0)), λ k q. writable-at 0 3 (p + 1 + 2 * k) (e .1 k q))
 
     -- by opcode
-    fits-by : (op p : ℕ) → p ≤ 16384 → opcode op ≡ fine → FieldsOk (sizes w) w end (formOf op .fields) (p + 1) → Fits w (instrBy (λ k. partAt w (past w (take k (formOf op .fields)) (p + 1))) op)
-    unfolding formOf after past instrBy
+    fits-by : (op p : ℕ) → p ≤ 16384 → opcode op ≡ fine → FieldsOk (sizes w) w end (formOf op .fields) (p + 1) → Fits w (instrBy (tab (λ k. partAt w (past w (take k (formOf op .fields)) (p + 1))) 6) op)
+    unfolding formOf after past instrBy tab
     fits-by zero p l o h = absurd (draw-clash o)
     fits-by (suc zero) p l o h = (table-ok _ (below-fine _ (h .0)), reads-at _ (omega (arith, place-near w end (formOf 1 .fields) 1 (p + 1) h)) (h .1 .0), writes-at _ (omega (arith, place-near w end (formOf 1 .fields) 2 (p + 1) h)) (h .1 .1 .0), below-fine _ (h .1 .1 .1 .1 .0))
     fits-by (suc (suc zero)) p l o h = (table-ok _ (below-fine _ (h .0)), reads-at _ (omega (arith, place-near w end (formOf 2 .fields) 1 (p + 1) h)) (h .1 .0), named-at 0 1 _ (h .1 .1 .1 .1 .0), below-fine _ (h .1 .1 .1 .0))

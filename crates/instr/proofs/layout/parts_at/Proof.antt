@@ -9,10 +9,9 @@ use lib.Seq.{take-all}
 use denote.Ref.{now}
 use Rattle.model.specs.Basics.{tab}
 use Rattle.model.specs.Book.Layout.{Field}
-use Rattle.model.specs.Book.Decode.{past, next}
+use Rattle.model.specs.Book.Decode.{past, fieldsAt, next}
 use Rattle.words.specs.Filled.{filled, filled-more}
 use Rattle.instr.specs.Fields.{fieldsOf, pastField, partAt}
-use Rattle.instr.specs.declared.layout.Field as code
 use Rattle.instr.specs.declared.layout.Field.the-variants.{Nothing}
 use Rattle.instr.specs.declared.layout.Part.{Part}
 use Rattle.instr.specs.FieldLaws.{past-more}
@@ -57,7 +56,8 @@ returns c =
     let e : l .k ≡ 6 = omega arith in
     let n : length (fs .result) ≡ 6 = search needs in
     let part : List Field → Part = λ gs. partAt w (past w gs (a .p + 1)) in
-    (rw e at (l .inv .3) ∙ ap (map part) (rw (word .ensures) at (fs .ensures .1)), (rw e at (l .inv .2)) ∙ ap (λ (gs : List code.Field). past w (fieldsOf gs) (a .p + 1)) (take-all 6 (fs .result) (omega arith)) ∙ (ap (λ (gs : List Field). past w gs (a .p + 1)) (rw (word .ensures) at (fs .ensures .0))))
+    let whole : fieldsOf (take 6 (fs .result)) ≡ fieldsAt w (a .p) = ap fieldsOf (take-all 6 (fs .result) (omega arith)) ∙ rw (word .ensures) at (fs .ensures .0) in
+    (rw e at (l .inv .3) ∙ ap (map part) (rw (word .ensures) at (fs .ensures .1)), (rw e at (l .inv .2)) ∙ ap (λ (gs : List Field). past w gs (a .p + 1)) whole)
 
 pub parts-at-spec : {M : Type 1} → statement M
 parts-at-spec =
