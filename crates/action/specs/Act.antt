@@ -69,10 +69,10 @@ module _ (w m : List ℕ) where
   answeringOr ask other l = withLanes (eitherLanes ask other (l .live)) (eitherWords ask other (l .live) (l .out)) l
 
   -- lanes with no committed row are served from the predicted rows; none drops
-  abbrev pub serving : TableId → Entries → Entries → ColumnId → Lanes → Lanes
-  serving t args vals col l =
-      let ask = rowAsk w t args col in
-      withServed (servedLanes w m (asking w t args vals col) (unanswered ask (l .live)) (record { state = l .state; log = l .log; index = l .index; out = answeredWords (asked w m ask) (l .live) (l .out) })) l
+  abbrev pub serving : Asking → Lanes → Lanes
+  serving ask l =
+      let row = AskRow (ask .row .of) (ask .key) (ask .col) in
+      withServed (servedLanes w m ask (unanswered row (l .live)) (record { state = l .state; log = l .log; index = l .index; out = answeredWords (asked w m row) (l .live) (l .out) })) l
 
   abbrev pub staging : Change → TableId → Entries → List Bool → Lanes → Lanes
   staging c t vals live l = withLog (stagedLanes c (t .0) (λ i. listed w m i vals) live (record { state = l .state; log = l .log })) l
@@ -85,7 +85,7 @@ module _ (w m : List ℕ) where
   counting c l = withLanes (l .live) (answeredWords (asked w m (AskConst (getD (l .state .counters .next) c 0))) (firstLanes 256) (l .out)) l
 
   unfoldable pub acted : Instr → Lanes → Lanes
-  acted (LookupOrInsertDefault t args vals col dst) l = serving t args vals col l
+  acted (LookupOrInsertDefault t args vals col dst) l = serving (asking w t args vals col) l
   acted (LookupWithDefault t args col dst e) l = answeringOr (rowAsk w t args col) (entryAsk e) l
   acted (Lookup t args col dst) l = answering (rowAsk w t args col) l
   acted (LookupWithFallback t key f args col dst) l = answeringOr (rowAsk w t key col) (AskFunction f args) l

@@ -5,6 +5,7 @@ use bindings::Bindings;
 use contents::Contents;
 use execution::Change;
 use execution::ExecutionState;
+use execution::Live;
 use execution::Staging;
 use ids::STALE;
 use instr::Dst;
@@ -34,31 +35,26 @@ pub struct Batch {
     pub state: ExecutionState,
 }
 
-// The live lanes that an instruction leaves, and what the run keeps.
-pub struct Acted {
-    pub mask: Mask,
-    pub state: ExecutionState,
-}
-
 // The lanes' part of an instruction; its dst is left in `out`.
 fn act(
     words: &[u32],
     chains: &[u32],
     bindings: &[u32],
     i: Instr,
-    mask: Mask,
-    state: ExecutionState,
+    start: Live,
     log: &mut [u32],
     index: &mut [u32],
     out: &mut [u32],
-) -> Acted
+) -> Live
     requires { ⌜ Readable (now words) × BookIndex (now words) (tableCount (now words)) (now chains) × Stands (now words) i
-        × Ready state (now log) (now index) × (length (now out) ≡ 256) ⌝ }
+        × Ready (start .state) (now log) (now index) × (length (now out) ≡ 256) ⌝ }
     ensures is { λ r. ⌜ asLanes (r .mask .live) (r .state) (now (log .exit)) (now (index .exit)) (now (out .exit))
         ≡ acted (now (words .entry)) (now (bindings .entry)) i
-        (asLanes (mask .live) state (now (log .entry)) (now (index .entry)) (now (out .entry))) ⌝ }
+        (asLanes (start .mask .live) (start .state) (now (log .entry)) (now (index .entry)) (now (out .entry))) ⌝ }
     ensures fits { λ r. ⌜ r .state .used ≤ length (now (log .entry)) ⌝ }
 {
+    let mask = start.mask;
+    let state = start.state;
     match i {
         Instr::LookupOrInsertDefault {
             table,
@@ -66,18 +62,14 @@ fn act(
             default,
             dst_col,
             ..
-        } => Acted {
+        } => Live {
             mask,
             state: lookup::lookup_or_insert_default(
                 words,
                 chains,
                 bindings,
-                table,
-                args,
-                default,
-                dst_col,
-                mask,
-                state,
+                lookup::predicted_ask(words, table, args, default, dst_col),
+                start,
                 log,
                 index,
                 out,
@@ -89,7 +81,7 @@ fn act(
             dst_col,
             default,
             ..
-        } => Acted {
+        } => Live {
             mask: lookup::fill_or_else(
                 words,
                 chains,
@@ -108,7 +100,7 @@ fn act(
             ..
         } => {
             let ask = lookup::row_ask(words, table, args, dst_col);
-            Acted {
+            Live {
                 mask: lanes::fill(words, chains, bindings, ask, mask, out),
                 state,
             }
@@ -120,7 +112,7 @@ fn act(
             func_args,
             dst_col,
             ..
-        } => Acted {
+        } => Live {
             mask: lookup::fill_or_else(
                 words,
                 chains,
@@ -135,7 +127,7 @@ fn act(
             ),
             state,
         },
-        Instr::Insert { table, vals } => Acted {
+        Instr::Insert { table, vals } => Live {
             mask,
             state: execution::stage_lanes(
                 words,
@@ -150,7 +142,7 @@ fn act(
                 log,
             ),
         },
-        Instr::InsertIfEq { table, l, r, vals } => Acted {
+        Instr::InsertIfEq { table, l, r, vals } => Live {
             mask,
             state: execution::stage_lanes(
                 words,
@@ -165,7 +157,7 @@ fn act(
                 log,
             ),
         },
-        Instr::Remove { table, args } => Acted {
+        Instr::Remove { table, args } => Live {
             mask,
             state: execution::stage_lanes(
                 words,
@@ -180,7 +172,7 @@ fn act(
                 log,
             ),
         },
-        Instr::External { func, args, .. } => Acted {
+        Instr::External { func, args, .. } => Live {
             mask: lanes::fill(
                 words,
                 chains,
@@ -197,7 +189,7 @@ fn act(
             f2,
             args2,
             ..
-        } => Acted {
+        } => Live {
             mask: lookup::fill_or_else(
                 words,
                 chains,
@@ -215,15 +207,15 @@ fn act(
             ),
             state,
         },
-        Instr::AssertEq(l, r) => Acted {
+        Instr::AssertEq(l, r) => Live {
             mask: lanes::retain(words, bindings, Test::Eq(l, r), mask),
             state,
         },
-        Instr::AssertNe(l, r) => Acted {
+        Instr::AssertNe(l, r) => Live {
             mask: lanes::retain(words, bindings, Test::Ne(l, r), mask),
             state,
         },
-        Instr::AssertAnyNe { ops, divider } => Acted {
+        Instr::AssertAnyNe { ops, divider } => Live {
             mask: lanes::retain(words, bindings, Test::AnyNe { ops, divider }, mask),
             state,
         },
@@ -232,7 +224,7 @@ fn act(
             let every = Mask::new(256);
             let next = state.read_counter(counter);
             lanes::fill(words, chains, bindings, Ask::Const(next), every, out);
-            Acted { mask, state }
+            Live { mask, state }
         }
     }
 }
@@ -274,8 +266,7 @@ fn run_instr(
         chains,
         bindings,
         i,
-        mask,
-        state,
+        Live { mask, state },
         log,
         index,
         &mut out,

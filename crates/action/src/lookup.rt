@@ -1,5 +1,6 @@
 // Lookups over the lanes of a batch, each with what serves the lanes that it misses.
 use execution::ExecutionState;
+use execution::Live;
 use ids::ColumnId;
 use ids::TableId;
 use instr::Entries;
@@ -11,13 +12,11 @@ use predicted_index::Sought;
 ghost use mathlib.Core.Path.{_≡_};
 ghost use Prim.Native.Nat.{_≤_, _<_};
 ghost use lib.ListN.{length};
-ghost use Rattle.model.specs.Book.Contents.{tableCount};
-ghost use Rattle.model.specs.Laws.Book.{Readable};
 ghost use Rattle.instr.specs.Stands.{Short};
-ghost use Rattle.hash_index.specs.Book.{BookIndex};
+ghost use Rattle.predicted_index.specs.Row.{Searchable};
 ghost use Rattle.lanes.specs.Lanes.{AskFits};
 ghost use Rattle.predict.specs.Predict.{Ready};
-ghost use Rattle.action.specs.Act.{Lanes, rowAsk, eitherLanes, eitherWords, serving, asLanes};
+ghost use Rattle.action.specs.Act.{rowAsk, asking, eitherLanes, eitherWords, serving, asLanes};
 
 // A column of the committed row with a key.
 pub fn row_ask(words: &[u32], table: TableId, key: Entries, col: ColumnId) -> Ask
@@ -25,6 +24,26 @@ pub fn row_ask(words: &[u32], table: TableId, key: Entries, col: ColumnId) -> As
 {
     Ask::Lookup {
         of: Sought::of(words, table),
+        key,
+        col,
+    }
+}
+
+// A column of the predicted row with a key, and the write values of a new one.
+pub fn predicted_ask(
+    words: &[u32],
+    table: TableId,
+    key: Entries,
+    default: Entries,
+    col: ColumnId,
+) -> Asking
+    ensures { λ r. ⌜ r ≡ asking (now (words .entry)) table key default col ⌝ }
+{
+    Asking {
+        row: Row {
+            of: Sought::of(words, table),
+            vals: default,
+        },
         key,
         col,
     }
@@ -56,40 +75,35 @@ pub fn lookup_or_insert_default(
     words: &[u32],
     chains: &[u32],
     bindings: &[u32],
-    table: TableId,
-    args: Entries,
-    default: Entries,
-    col: ColumnId,
-    mask: Mask,
-    state: ExecutionState,
+    ask: Asking,
+    start: Live,
     log: &mut [u32],
     index: &mut [u32],
     out: &mut [u32],
 ) -> ExecutionState
-    requires { ⌜ Readable (now words) × BookIndex (now words) (tableCount (now words)) (now chains)
-        × (table .0 < tableCount (now words)) × Short args × Short default × Ready state (now log) (now index)
-        × (length (now out) ≡ 256) ⌝ }
-    ensures is { λ r. ⌜ asLanes (mask .live) r (now (log .exit)) (now (index .exit)) (now (out .exit))
-        ≡ serving (now (words .entry)) (now (bindings .entry)) table args default col
-        (asLanes (mask .live) state (now (log .entry)) (now (index .entry)) (now (out .entry))) ⌝ }
+    requires { ⌜ Searchable (now words) (now chains) (ask .row .of) × Short (ask .key) × Short (ask .row .vals)
+        × Ready (start .state) (now log) (now index) × (length (now out) ≡ 256) ⌝ }
+    ensures is { λ r. ⌜ asLanes (start .mask .live) r (now (log .exit)) (now (index .exit)) (now (out .exit))
+        ≡ serving (now (words .entry)) (now (bindings .entry)) ask
+        (asLanes (start .mask .live) (start .state) (now (log .entry)) (now (index .entry)) (now (out .entry))) ⌝ }
     ensures fits { λ r. ⌜ r .used ≤ length (now (log .entry)) ⌝ }
 {
-    let of = Sought::of(words, table);
-    let ask = Ask::Lookup { of, key: args, col };
-    let found = lanes::fill(words, chains, bindings, ask, mask, out);
-    predict::serve_lanes(
+    let of = ask.row.of;
+    let key = ask.key;
+    let col = ask.col;
+    let mask = start.mask;
+    let state = start.state;
+    let found = lanes::fill(
         words,
         chains,
         bindings,
-        Asking {
-            row: Row { of, vals: default },
-            key: args,
-            col,
-        },
-        mask.difference(found),
-        state,
-        log,
-        index,
+        Ask::Lookup { of, key, col },
+        mask,
         out,
-    )
+    );
+    let missed = Live {
+        mask: mask.difference(found),
+        state,
+    };
+    predict::serve_lanes(words, chains, bindings, ask, missed, log, index, out)
 }
