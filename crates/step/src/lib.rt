@@ -8,6 +8,7 @@ use execution::ExecutionState;
 use ids::TableId;
 use mask::Mask;
 use predict::Got;
+use predict::Keyed;
 use predict::Row;
 use predicted_index::Sought;
 ghost use mathlib.Core.Path.{_≡_};
@@ -98,16 +99,11 @@ pub fn run_prediction(
         of: Sought::of(words, TableId(words::word(words, at))),
         vals: instr::list_at(words, at + 2 + n),
     };
-    predict::predict_val(
-        words,
-        chains,
-        bindings,
+    let want = Keyed {
         row,
-        key_asked(words, i),
-        state,
-        log,
-        index,
-    )
+        key: key_asked(words, i),
+    };
+    predict::predict_val(words, chains, bindings, want, state, log, index)
 }
 
 // The row that it answers, where it stands by now.
