@@ -11,6 +11,7 @@ use Rattle.model.specs.Book.Decode as decode
 use Rattle.instr.specs.Fields.{partAt}
 use Rattle.instr.specs.Instr.{entryBy, writeBy, entryAt, writeAt, made, noInstr, instrBy, instrAt}
 use Rattle.instr.specs.declared.layout.Part.{Part}
+use Rattle.instr.specs.declared.Instr.{Instr}
 use Rattle.instr.specs.declared.QueryEntry.the-variants.{Const}
 use Rattle.instr.specs.declared.WriteVal.the-variants.{CurrentVal}
 use Rattle.instr.specs.Meaning.{entryOf, writeOf, instrOf}
@@ -53,6 +54,11 @@ none-of (suc n) x h p = let q = none-of n x (h .0) p in let e = h .1 in omega ar
 outside : {A : Type 0} (d : A) (l : List A) (x : ℕ) → NoneOf (length l) x → d ≡ getD (d ∷ l) x d
 outside d l zero h = refl
 outside d l (suc x) h = sym (List·getD-eq-default l d {n = x} (omega (arith, none-of (length l) (suc x) h (omega arith))))
+
+-- an arm of a match on the opcode, and its last
+pub instr-arm : (fs : List Part) (i : Instr) {op n : ℕ} → op ≡ n → i ≡ getD (noInstr ∷ made fs) n noInstr → i ≡ instrBy fs op
+unfolding instrBy
+instr-arm fs i e h = h ∙ ap (instrBy fs) (sym e)
 
 pub instr-rest : (fs : List Part) (op : ℕ) → NoneOf 13 op → noInstr ≡ instrBy fs op
 unfolding instrBy

@@ -194,14 +194,14 @@ impl Part {
 fn instr_of(op: u32, f0: Part, f1: Part, f2: Part, f3: Part, f4: Part, f5: Part) -> Instr
     ensures { λ r. ⌜ r ≡ specs.instrBy (f0 ∷ f1 ∷ f2 ∷ f3 ∷ f4 ∷ f5 ∷ []) op ⌝ }
 {
-    // What some opcode has as a list, or as an entry.
-    let list1 = f1.list();
-    let list2 = f2.list();
-    let list3 = f3.list();
+    // What some opcode has as an entry, or as a list.
     let entry0 = f0.entry();
     let entry1 = f1.entry();
     let entry2 = f2.entry();
     let entry4 = f4.entry();
+    let list1 = f1.list();
+    let list2 = f2.list();
+    let list3 = f3.list();
     match op {
         1 => Instr::LookupOrInsertDefault {
             table: TableId(f0.first),
