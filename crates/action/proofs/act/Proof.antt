@@ -183,63 +183,14 @@ returns-13 c =
 pub act-spec : {M : Type 1} → statement M
 act-spec =
     tie.close
-    (tie.spec
-    (λ c. search needs)
-    (λ c κs. search needs)
-    lookup-or-insert-default-requires
-    (λ c. search needs)
-    (λ c κs. search needs)
-    (λ c κs. search needs)
-    fill-or-else-requires
-    (λ c. search needs)
-    (λ c κs. search needs)
-    fill-requires
-    (λ c. search needs)
-    (λ c κs. search needs)
-    fill-or-else-requires-2
-    (λ c. search needs)
-    stage-lanes-requires
-    (λ c. search needs)
-    (λ c κs. search needs)
-    stage-lanes-requires-2
-    (λ c. search needs)
-    stage-lanes-requires-3
-    (λ c. search needs)
-    fill-requires-2
-    (λ c. search needs)
-    fill-or-else-requires-3
-    (λ c. search needs)
-    (λ c κs. search needs)
-    (λ c. search needs)
-    (λ c κs. search needs)
-    (λ c. search needs)
-    retain-requires-4
-    (λ c. search needs)
-    (λ c κs. search needs)
-    (λ c κs. search needs)
-    (λ c κs. search needs)
-    (λ c. search needs)
-    (λ c. search needs)
-    (λ c. search needs)
-    returns
-    (λ c. search needs)
-    returns-2
-    (λ c. search needs)
-    returns-3
-    (λ c. search needs)
-    returns-4
-    (λ c. search needs)
-    returns-5
-    (λ c. search needs)
-    returns-6
-    (λ c. search needs)
-    returns-7
-    (λ c. search needs)
-    returns-8
-    (λ c. search needs)
-    returns-9
-    returns-10
-    returns-11
-    returns-12
-    (λ c. search needs)
-    returns-13)
+    (tie.spec (λ c. search needs) (λ c κs. search needs) lookup-or-insert-default-requires (λ c. search needs)
+    (λ c κs. search needs) (λ c κs. search needs) fill-or-else-requires (λ c. search needs) (λ c κs. search needs)
+    fill-requires (λ c. search needs) (λ c κs. search needs) fill-or-else-requires-2 (λ c. search needs)
+    stage-lanes-requires (λ c. search needs) (λ c κs. search needs) stage-lanes-requires-2 (λ c. search needs)
+    stage-lanes-requires-3 (λ c. search needs) fill-requires-2 (λ c. search needs) fill-or-else-requires-3
+    (λ c. search needs) (λ c κs. search needs) (λ c. search needs) (λ c κs. search needs) (λ c. search needs)
+    retain-requires-4 (λ c. search needs) (λ c κs. search needs) (λ c κs. search needs) (λ c κs. search needs)
+    (λ c. search needs) (λ c. search needs) (λ c. search needs) returns (λ c. search needs) returns-2
+    (λ c. search needs) returns-3 (λ c. search needs) returns-4 (λ c. search needs) returns-5 (λ c. search needs)
+    returns-6 (λ c. search needs) returns-7 (λ c. search needs) returns-8 (λ c. search needs) returns-9 returns-10
+    returns-11 returns-12 (λ c. search needs) returns-13)

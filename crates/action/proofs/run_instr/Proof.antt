@@ -28,13 +28,5 @@ returns c =
 pub run-instr-spec : {M : Type 1} → statement M
 run-instr-spec =
     tie.close
-    (tie.spec
-    (λ c. search needs)
-    (λ c κs. search needs)
-    (λ c κs. search needs)
-    (λ c. search needs)
-    bind-dst-requires
-    (λ c. search needs)
-    (λ c. search needs)
-    (λ c. search needs)
-    returns)
+    (tie.spec (λ c. search needs) (λ c κs. search needs) (λ c κs. search needs) (λ c. search needs) bind-dst-requires
+    (λ c. search needs) (λ c. search needs) (λ c. search needs) returns)

@@ -103,23 +103,7 @@ returns c =
 pub run-instrs-spec : {M : Type 1} → statement M
 run-instrs-spec =
     tie.close
-    (tie.spec
-    Inv-loop
-    μ-loop
-    (λ c κs. search needs)
-    add-first-of
-    first-of-requires
-    (λ c. search needs)
-    (λ c κs. search needs)
-    (λ c κs. search needs)
-    (λ c. search needs)
-    loop-holds
-    run-next-requires
-    next-requires
-    (λ c. search needs)
-    (λ c. search needs)
-    loop-again
-    (λ c. search needs)
-    (λ c. search needs)
-    (λ c. search needs)
+    (tie.spec Inv-loop μ-loop (λ c κs. search needs) add-first-of first-of-requires (λ c. search needs)
+    (λ c κs. search needs) (λ c κs. search needs) (λ c. search needs) loop-holds run-next-requires next-requires
+    (λ c. search needs) (λ c. search needs) loop-again (λ c. search needs) (λ c. search needs) (λ c. search needs)
     returns)

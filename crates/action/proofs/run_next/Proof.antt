@@ -34,13 +34,5 @@ returns-2 c =
 pub run-next-spec : {M : Type 1} → statement M
 run-next-spec =
     tie.close
-    (tie.spec
-    (λ c κs. search needs)
-    (λ c κs. search needs)
-    (λ c κs. search needs)
-    run-instr-requires
-    (λ c. search needs)
-    (λ c. search needs)
-    (λ c. search needs)
-    returns
-    returns-2)
+    (tie.spec (λ c κs. search needs) (λ c κs. search needs) (λ c κs. search needs) run-instr-requires
+    (λ c. search needs) (λ c. search needs) (λ c. search needs) returns returns-2)

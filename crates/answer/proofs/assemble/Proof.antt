@@ -136,20 +136,6 @@ returns-2 c =
 pub assemble-spec : {M : Type 1} → statement M
 assemble-spec =
     tie.close
-    (tie.spec
-    shape-of-requires
-    add-n
-    add-n-2
-    add-n-3
-    mul-total
-    add-total
-    slice-aggregate-length-of
-    length-of-requires
-    add-total-2
-    returns
-    slice-aggregate-fill
-    slice-aggregate-fill-2
-    slice-aggregate-fill-3
-    fill-requires
-    same-length
+    (tie.spec shape-of-requires add-n add-n-2 add-n-3 mul-total add-total slice-aggregate-length-of length-of-requires
+    add-total-2 returns slice-aggregate-fill slice-aggregate-fill-2 slice-aggregate-fill-3 fill-requires same-length
     returns-2)

@@ -115,24 +115,7 @@ returns c =
 pub fill-spec : {M : Type 1} → statement M
 fill-spec =
     tie.close
-    (tie.spec
-    (λ c. search needs)
-    (λ c. search needs)
-    (λ c. search needs)
-    (λ c. search needs)
-    (λ c. search needs)
-    (λ c. search needs)
-    (λ c κs. search needs)
-    add-shift
-    shift-requires
-    (λ c. search needs)
-    slice-write-answer
-    write-entries-requires
-    write-tables-requires
-    slice-aggregate-write
-    write-requires
-    add-write-log
-    add-write-log-2
-    write-log-requires
-    same-length
-    returns)
+    (tie.spec (λ c. search needs) (λ c. search needs) (λ c. search needs) (λ c. search needs) (λ c. search needs)
+    (λ c. search needs) (λ c κs. search needs) add-shift shift-requires (λ c. search needs) slice-write-answer
+    write-entries-requires write-tables-requires slice-aggregate-write write-requires add-write-log add-write-log-2
+    write-log-requires same-length returns)

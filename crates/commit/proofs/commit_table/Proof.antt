@@ -72,15 +72,5 @@ returns c =
 pub commit-table-spec : {M : Type 1} → statement M
 commit-table-spec =
     tie.close
-    (tie.spec
-    (λ c κs. search needs)
-    cast-done
-    keep-requires
-    insert-rows-requires
-    (λ c κs. search needs)
-    cast-done-2
-    (λ c. search needs)
-    (λ c. search needs)
-    (λ c. search needs)
-    (λ c. search needs)
-    returns)
+    (tie.spec (λ c κs. search needs) cast-done keep-requires insert-rows-requires (λ c κs. search needs) cast-done-2
+    (λ c. search needs) (λ c. search needs) (λ c. search needs) (λ c. search needs) returns)

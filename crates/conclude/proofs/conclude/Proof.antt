@@ -12,8 +12,9 @@ use Rattle.conclude.proofs.conclude.Tie as tie
 
 add-step : tie.Need-add-step
 add-step c =
+    let a = c .before .before .before .before .before .before .before .args in
     let pre = c .before .before .before .before .before .before .before .pre in
-    let w = now (c .before .before .before .before .before .before .before .args .words) in
+    let w = now (a .words) in
     omega (arith, first-step-is (pre .1) (c .before .first-step .ensures), pre .2, few-tables w (pre .0), few-counters w (pre .0), few-rules w (pre .0))
 
 settle-requires : tie.Need-settle-requires
@@ -30,26 +31,18 @@ returns c =
 
 returns-2 : tie.Need-returns-2
 returns-2 c =
+    let pre = c .before .before .before .before .before .before .before .before .before .pre in
     let a = c .before .before .before .before .before .before .before .before .before .args in
-    rw (first-step-is (c .before .before .before .before .before .before .before .before .before .pre .1) (c .before .before .before .first-step .ensures)) (concluded-by (now (a .words)) (a .p) (now (a .log)) (now (a .tables)) (now (a .answer)) Spent (c .enum-told2 .given .1))
+    rw (first-step-is (pre .1) (c .before .before .before .first-step .ensures)) (concluded-by (now (a .words)) (a .p) (now (a .log)) (now (a .tables)) (now (a .answer)) Spent (c .enum-told2 .given .1))
 
 returns-3 : tie.Need-returns-3
 returns-3 c =
+    let pre = c .before .before .before .before .before .before .before .before .before .pre in
     let a = c .before .before .before .before .before .before .before .before .before .args in
-    rw (first-step-is (c .before .before .before .before .before .before .before .before .before .pre .1) (c .before .before .before .first-step .ensures)) (concluded-by (now (a .words)) (a .p) (now (a .log)) (now (a .tables)) (now (a .answer)) Full (c .enum-told3 .given .1))
+    rw (first-step-is (pre .1) (c .before .before .before .first-step .ensures)) (concluded-by (now (a .words)) (a .p) (now (a .log)) (now (a .tables)) (now (a .answer)) Full (c .enum-told3 .given .1))
 
 pub conclude-spec : {M : Type 1} → statement M
 conclude-spec =
     tie.close
-    (tie.spec
-    (λ c κs. search needs)
-    add-step
-    (λ c. search needs)
-    settle-requires
-    (λ c. search needs)
-    (λ c. search needs)
-    (λ c. search needs)
-    (λ c. search needs)
-    returns
-    returns-2
-    returns-3)
+    (tie.spec (λ c κs. search needs) add-step (λ c. search needs) settle-requires (λ c. search needs)
+    (λ c. search needs) (λ c. search needs) (λ c. search needs) returns returns-2 returns-3)

@@ -97,33 +97,8 @@ returns-6 c =
 pub check-spec : {M : Type 1} → statement M
 check-spec =
     tie.close
-    (tie.spec
-    Inv-loop
-    μ-loop
-    (λ c. search needs)
-    (λ c κs. search needs)
-    returns
-    returns-2
-    (λ c. search needs)
-    (λ c. search needs)
-    returns-3
-    (λ c. search needs)
-    (λ c. search needs)
-    loop-holds
-    (λ c κs. search needs)
-    (λ c κs. search needs)
-    (λ c κs. search needs)
-    (λ c κs. search needs)
-    (λ c. search needs)
-    (λ c. search needs)
-    add-seen
-    (λ c κs. search needs)
-    returns-4
-    (λ c. search needs)
-    (λ c. search needs)
-    (λ c κs. search needs)
-    (λ c. search needs)
-    (λ c. search needs)
-    loop-again
-    returns-5
-    returns-6)
+    (tie.spec Inv-loop μ-loop (λ c. search needs) (λ c κs. search needs) returns returns-2 (λ c. search needs)
+    (λ c. search needs) returns-3 (λ c. search needs) (λ c. search needs) loop-holds (λ c κs. search needs)
+    (λ c κs. search needs) (λ c κs. search needs) (λ c κs. search needs) (λ c. search needs) (λ c. search needs)
+    add-seen (λ c κs. search needs) returns-4 (λ c. search needs) (λ c. search needs) (λ c κs. search needs)
+    (λ c. search needs) (λ c. search needs) loop-again returns-5 returns-6)

@@ -41,14 +41,5 @@ returns c =
 pub members-spec : {M : Type 1} → statement M
 members-spec =
     tie.close
-    (tie.spec
-    Inv-loop
-    μ-loop
-    loop-holds
-    (λ c κs. search needs)
-    (λ c κs. search needs)
-    add-c
-    (λ c. search needs)
-    (λ c. search needs)
-    loop-again
-    returns)
+    (tie.spec Inv-loop μ-loop loop-holds (λ c κs. search needs) (λ c κs. search needs) add-c (λ c. search needs)
+    (λ c. search needs) loop-again returns)

@@ -56,18 +56,6 @@ returns c =
 pub counters-of-spec : {M : Type 1} → statement M
 counters-of-spec =
     tie.close
-    (tie.spec
-    Inv-loop
-    μ-loop
-    (λ c κs. search needs)
-    (λ c κs. search needs)
-    loop-holds
-    (λ c. search needs)
-    first-of-requires
-    (λ c κs. search needs)
-    (λ c. search needs)
-    array-write-next
-    (λ c. search needs)
-    (λ c. search needs)
-    loop-again
-    returns)
+    (tie.spec Inv-loop μ-loop (λ c κs. search needs) (λ c κs. search needs) loop-holds (λ c. search needs)
+    first-of-requires (λ c κs. search needs) (λ c. search needs) array-write-next (λ c. search needs)
+    (λ c. search needs) loop-again returns)

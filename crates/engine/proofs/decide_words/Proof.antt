@@ -91,22 +91,7 @@ returns-2 c =
 pub decide-words-spec : {M : Type 1} → statement M
 decide-words-spec =
     tie.close
-    (tie.spec
-    load-words-requires
-    slice-reshare-prefix-first-refusal
-    slice-aggregate-first-refusal
-    first-refusal-requires
-    (λ c. search needs)
-    slice-reshare-prefix-run-book
-    slice-aggregate-run-book
-    run-book-requires
-    (λ c. search needs)
-    (λ c. search needs)
-    (λ c. search needs)
-    (λ c. search needs)
-    (λ c. search needs)
-    (λ c. search needs)
-    (λ c. search needs)
-    returns
-    (λ c. search needs)
-    returns-2)
+    (tie.spec load-words-requires slice-reshare-prefix-first-refusal slice-aggregate-first-refusal
+    first-refusal-requires (λ c. search needs) slice-reshare-prefix-run-book slice-aggregate-run-book run-book-requires
+    (λ c. search needs) (λ c. search needs) (λ c. search needs) (λ c. search needs) (λ c. search needs)
+    (λ c. search needs) (λ c. search needs) returns (λ c. search needs) returns-2)

@@ -12,15 +12,21 @@ use Rattle.engine.proofs.run_book.Statement.{statement}
 use Rattle.engine.proofs.run_book.Tie as tie
 
 of-requires : tie.Need-of-requires
-of-requires c κs = few-entries (now (c .before .before .before .before .before .before .args .words)) (c .before .before .before .before .before .before .pre .0 .readable)
+of-requires c κs =
+    let a = c .before .before .before .before .before .before .args in
+    let pre = c .before .before .before .before .before .before .pre in
+    few-entries (now (a .words)) (pre .0 .readable)
 
 start-requires : tie.Need-start-requires
-start-requires c κs = (c .before .before .before .before .before .before .before .pre .0 .readable, c .of .ensures)
+start-requires c κs =
+    let pre = c .before .before .before .before .before .before .before .pre in
+    (pre .0 .readable, c .of .ensures)
 
 run-steps-requires : tie.Need-run-steps-requires
 run-steps-requires c κs =
+    let start = c .before .before .before .before .start in
     let p = c .before .before .before .before .before .before .before .before .before .before .before .before .pre in
-    let s = c .before .before .before .before .start .ensures in (
+    let s = start .ensures in (
       p .0 .readable,
       c .before .before .before .before .before .of .ensures,
       ap (λ (p : Progress). p .done) s,
@@ -54,14 +60,5 @@ returns c =
 pub run-book-spec : {M : Type 1} → statement M
 run-book-spec =
     tie.close
-    (tie.spec
-    of-requires
-    start-requires
-    run-steps-requires
-    conclude-requires
-    (λ c. search needs)
-    (λ c. search needs)
-    (λ c. search needs)
-    (λ c. search needs)
-    (λ c. search needs)
-    returns)
+    (tie.spec of-requires start-requires run-steps-requires conclude-requires (λ c. search needs) (λ c. search needs)
+    (λ c. search needs) (λ c. search needs) (λ c. search needs) returns)

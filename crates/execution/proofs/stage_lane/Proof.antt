@@ -53,15 +53,5 @@ returns-3 c =
 pub stage-lane-spec : {M : Type 1} → statement M
 stage-lane-spec =
     tie.close
-    (tie.spec
-    (λ c κs. search needs)
-    (λ c κs. search needs)
-    (λ c. search needs)
-    stage-insert-requires
-    (λ c. search needs)
-    stage-remove-requires
-    (λ c. search needs)
-    returns
-    (λ c. search needs)
-    returns-2
-    returns-3)
+    (tie.spec (λ c κs. search needs) (λ c κs. search needs) (λ c. search needs) stage-insert-requires
+    (λ c. search needs) stage-remove-requires (λ c. search needs) returns (λ c. search needs) returns-2 returns-3)

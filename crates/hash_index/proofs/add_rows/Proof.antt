@@ -83,16 +83,5 @@ returns c =
 pub add-rows-spec : {M : Type 1} → statement M
 add-rows-spec =
     tie.close
-    (tie.spec
-    Inv-loop
-    μ-loop
-    loop-holds
-    add-add
-    home-requires
-    add-requires
-    add-at
-    (λ c. search needs)
-    (λ c. search needs)
-    loop-again
-    same-length
-    returns)
+    (tie.spec Inv-loop μ-loop loop-holds add-add home-requires add-requires add-at (λ c. search needs)
+    (λ c. search needs) loop-again same-length returns)

@@ -95,21 +95,6 @@ returns-2 c =
 pub find-spec : {M : Type 1} → statement M
 find-spec =
     tie.close
-    (tie.spec
-    Inv-loop
-    μ-loop
-    (λ c κs. search needs)
-    (λ c. search needs)
-    shared-slice-read-size
-    (λ c κs. search needs)
-    loop-holds
-    is-row-requires
-    place-requires
-    returns
-    add-size
-    mul-size-2
-    shared-slice-read-size-2
-    (λ c κs. search needs)
-    loop-less
-    loop-again
-    returns-2)
+    (tie.spec Inv-loop μ-loop (λ c κs. search needs) (λ c. search needs) shared-slice-read-size (λ c κs. search needs)
+    loop-holds is-row-requires place-requires returns add-size mul-size-2 shared-slice-read-size-2
+    (λ c κs. search needs) loop-less loop-again returns-2)

@@ -8,9 +8,4 @@ returns c = rw (c .entry-of .ensures, c .before .word2 .ensures, c .before .befo
 pub entry-at-spec : {M : Type 1} → statement M
 entry-at-spec =
     tie.close
-    (tie.spec
-    (λ c κs. search needs)
-    (λ c. search needs)
-    (λ c κs. search needs)
-    (λ c κs. search needs)
-    returns)
+    (tie.spec (λ c κs. search needs) (λ c. search needs) (λ c κs. search needs) (λ c κs. search needs) returns)

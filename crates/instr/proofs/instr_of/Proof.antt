@@ -39,7 +39,9 @@ returns-11 : tie.Need-returns-11
 returns-11 c = let e = c .before .before .before .before in instr-arm _ _ (c .match .keys11) (rw (e .before .before .entry2 .ensures, e .before .before .before .entry .ensures))
 
 returns-12 : tie.Need-returns-12
-returns-12 c = instr-arm _ _ (c .before .match .keys12) (rw (c .size .ensures .0, c .before .before .before .before .list .ensures))
+returns-12 c =
+    let list = c .before .before .before .before .list in
+    instr-arm _ _ (c .before .match .keys12) (rw (c .size .ensures .0, list .ensures))
 
 returns-13 : tie.Need-returns-13
 returns-13 c = instr-arm _ _ (c .match .keys13) refl
@@ -50,26 +52,7 @@ returns-14 c = instr-rest _ _ (c .match .rest)
 pub instr-of-spec : {M : Type 1} → statement M
 instr-of-spec =
     tie.close
-    (tie.spec
-    (λ c κs. search needs)
-    (λ c κs. search needs)
-    (λ c κs. search needs)
-    (λ c κs. search needs)
-    (λ c κs. search needs)
-    (λ c κs. search needs)
-    (λ c κs. search needs)
-    (λ c κs. search needs)
-    returns
-    returns-2
-    returns-3
-    returns-4
-    returns-5
-    returns-6
-    returns-7
-    returns-8
-    returns-9
-    returns-10
-    returns-11
-    returns-12
-    returns-13
+    (tie.spec (λ c κs. search needs) (λ c κs. search needs) (λ c κs. search needs) (λ c κs. search needs)
+    (λ c κs. search needs) (λ c κs. search needs) (λ c κs. search needs) (λ c κs. search needs) returns returns-2
+    returns-3 returns-4 returns-5 returns-6 returns-7 returns-8 returns-9 returns-10 returns-11 returns-12 returns-13
     returns-14)

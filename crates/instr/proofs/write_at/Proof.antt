@@ -22,12 +22,5 @@ returns-4 c = let r = c .before .match .rest in rw (c .size .ensures .0, ← c .
 pub write-at-spec : {M : Type 1} → statement M
 write-at-spec =
     tie.close
-    (tie.spec
-    (λ c κs. search needs)
-    (λ c. search needs)
-    (λ c κs. search needs)
-    (λ c κs. search needs)
-    returns
-    returns-2
-    returns-3
-    returns-4)
+    (tie.spec (λ c κs. search needs) (λ c. search needs) (λ c κs. search needs) (λ c κs. search needs) returns returns-2
+    returns-3 returns-4)

@@ -42,20 +42,6 @@ returns-4 c = rw (c .before .ask4 .given .1)
 pub answer-spec : {M : Type 1} → statement M
 answer-spec =
     tie.close
-    (tie.spec
-    (λ c. search needs)
-    fetch-requires
-    (λ c. search needs)
-    (λ c. search needs)
-    row-of-requires
-    (λ c κs. search needs)
-    (λ c. search needs)
-    fetch-requires-2
-    (λ c κs. search needs)
-    (λ c. search needs)
-    (λ c κs. search needs)
-    (λ c. search needs)
-    returns
-    returns-2
-    returns-3
-    returns-4)
+    (tie.spec (λ c. search needs) fetch-requires (λ c. search needs) (λ c. search needs) row-of-requires
+    (λ c κs. search needs) (λ c. search needs) fetch-requires-2 (λ c κs. search needs) (λ c. search needs)
+    (λ c κs. search needs) (λ c. search needs) returns returns-2 returns-3 returns-4)

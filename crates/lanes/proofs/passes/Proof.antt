@@ -31,16 +31,6 @@ returns-3 c = rw (c .before .before .before .test3 .given .1, ← c .before .fet
 pub passes-spec : {M : Type 1} → statement M
 passes-spec =
     tie.close
-    (tie.spec
-    (λ c. search needs)
-    (λ c κs. search needs)
-    (λ c κs. search needs)
-    (λ c. search needs)
-    (λ c κs. search needs)
-    (λ c κs. search needs)
-    (λ c. search needs)
-    fetch-requires
-    any-ne-requires
-    returns
-    returns-2
+    (tie.spec (λ c. search needs) (λ c κs. search needs) (λ c κs. search needs) (λ c. search needs)
+    (λ c κs. search needs) (λ c κs. search needs) (λ c. search needs) fetch-requires any-ne-requires returns returns-2
     returns-3)

@@ -36,16 +36,6 @@ returns-3 c =
 pub insert-spec : {M : Type 1} → statement M
 insert-spec =
     tie.close
-    (tie.spec
-    (λ c κs. search needs)
-    (λ c κs. search needs)
-    returns
-    (λ c κs. search needs)
-    (λ c κs. search needs)
-    insert-requires
-    (λ c. search needs)
-    (λ c. search needs)
-    returns-2
-    (λ c κs. search needs)
-    (λ c. search needs)
+    (tie.spec (λ c κs. search needs) (λ c κs. search needs) returns (λ c κs. search needs) (λ c κs. search needs)
+    insert-requires (λ c. search needs) (λ c. search needs) returns-2 (λ c κs. search needs) (λ c. search needs)
     returns-3)

@@ -27,13 +27,5 @@ returns-2 c =
 pub predict-val-spec : {M : Type 1} → statement M
 predict-val-spec =
     tie.close
-    (tie.spec
-    look-up-among-requires
-    (λ c. search needs)
-    (λ c. search needs)
-    (λ c κs. search needs)
-    (λ c κs. search needs)
-    returns
-    (λ c. search needs)
-    (λ c. search needs)
-    returns-2)
+    (tie.spec look-up-among-requires (λ c. search needs) (λ c. search needs) (λ c κs. search needs)
+    (λ c κs. search needs) returns (λ c. search needs) (λ c. search needs) returns-2)

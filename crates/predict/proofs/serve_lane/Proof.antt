@@ -21,36 +21,35 @@ take-requires c κs = let p = c .before .before .before .before .before .before 
 returns : tie.Need-returns
 unfolding servedLane
 returns c =
+    let going = c .before .before .before .before .before .before .before .before .before .before .before .before .before .before .before .before .before .before .before .before .going in
+    let if1 = c .before .before .before .before .before .before .before .before .before .before .before .before .before .before .before .before .before .before .if1 in
+    let get-or-insert-with = c .before .before .before .before .before .before .before .before .before .before .before .before .before .get-or-insert-with in
+    let going2 = c .before .before .before .before .before .before .before .going2 in
+    let if2 = c .before .before .before .before .before .before .if2 in
     let a = c .before .before .before .before .before .before .before .before .before .before .before .before .before .before .before .before .before .before .before .before .before .before .before .before .before .before .before .before .before .args in
     let fetch = c .before .before .before .before .before .before .before .before .before .before .before .before .before .before .before .before .before .fetch in
-    let e = c .before .before .before .before .before .before .before .before .before .before .before .before .before .get-or-insert-with .ensures in
-    (rw (← c .before .before .before .before .before .before .before .before .before .before .before .before .before .before .before .before .before .before .before .before .going .ensures, c .before .before .before .before .before .before .before .before .before .before .before .before .before .before .before .before .before .before .if1 .taken, ← fetch .ensures, ← e .0, ← c .before .before .before .before .before .before .before .going2 .ensures, c .before .before .before .before .before .before .if2 .taken, c .before .before .take .ensures), e .1)
+    let e = get-or-insert-with .ensures in
+    (rw (← going .ensures, if1 .taken, ← fetch .ensures, ← e .0, ← going2 .ensures, if2 .taken, c .before .before .take .ensures), e .1)
 
 returns-2 : tie.Need-returns-2
 unfolding servedLane
 returns-2 c =
+    let going = c .before .before .before .before .before .before .before .before .before .before .before .before .before .before .going in
+    let if1 = c .before .before .before .before .before .before .before .before .before .before .before .before .if1 in
+    let get-or-insert-with = c .before .before .before .before .before .before .before .get-or-insert-with in
     let fetch = c .before .before .before .before .before .before .before .before .before .before .before .fetch in
-    let e = c .before .before .before .before .before .before .before .get-or-insert-with .ensures in
-    (rw (← c .before .before .before .before .before .before .before .before .before .before .before .before .before .before .going .ensures, c .before .before .before .before .before .before .before .before .before .before .before .before .if1 .taken, ← fetch .ensures, ← e .0, ← c .before .going2 .ensures, c .if2 .left), e .1)
+    let e = get-or-insert-with .ensures in
+    (rw (← going .ensures, if1 .taken, ← fetch .ensures, ← e .0, ← c .before .going2 .ensures, c .if2 .left), e .1)
 
 returns-3 : tie.Need-returns-3
 unfolding servedLane
-returns-3 c = (rw (← c .before .before .going .ensures, c .if1 .left), c .before .before .before .before .before .before .before .before .before .before .before .pre .3 .used)
+returns-3 c =
+    let pre = c .before .before .before .before .before .before .before .before .before .before .before .pre in
+    (rw (← c .before .before .going .ensures, c .if1 .left), pre .3 .used)
 
 pub serve-lane-spec : {M : Type 1} → statement M
 serve-lane-spec =
     tie.close
-    (tie.spec
-    (λ c κs. search needs)
-    (λ c κs. search needs)
-    get-or-insert-with-requires
-    (λ c κs. search needs)
-    take-requires
-    (λ c. search needs)
-    (λ c. search needs)
-    (λ c. search needs)
-    returns
-    (λ c. search needs)
-    (λ c. search needs)
-    returns-2
-    returns-3)
+    (tie.spec (λ c κs. search needs) (λ c κs. search needs) get-or-insert-with-requires (λ c κs. search needs)
+    take-requires (λ c. search needs) (λ c. search needs) (λ c. search needs) returns (λ c. search needs)
+    (λ c. search needs) returns-2 returns-3)

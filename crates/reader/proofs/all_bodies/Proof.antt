@@ -55,16 +55,5 @@ returns-2 c =
 pub all-bodies-spec : {M : Type 1} → statement M
 all-bodies-spec =
     tie.close
-    (tie.spec
-    Inv-loop
-    μ-loop
-    of-requires
-    (λ c κs. search needs)
-    loop-holds
-    body-requires
-    (λ c. search needs)
-    returns
-    (λ c. search needs)
-    (λ c. search needs)
-    loop-again
-    returns-2)
+    (tie.spec Inv-loop μ-loop of-requires (λ c κs. search needs) loop-holds body-requires (λ c. search needs) returns
+    (λ c. search needs) (λ c. search needs) loop-again returns-2)

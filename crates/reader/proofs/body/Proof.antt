@@ -64,15 +64,5 @@ returns-5 c =
 pub body-spec : {M : Type 1} → statement M
 body-spec =
     tie.close
-    (tie.spec
-    walk-requires
-    (λ c. search needs)
-    (λ c. search needs)
-    returns
-    returns-2
-    kind-of-requires
-    first-of-requires
-    repeated-requires
-    returns-3
-    returns-4
-    returns-5)
+    (tie.spec walk-requires (λ c. search needs) (λ c. search needs) returns returns-2 kind-of-requires first-of-requires
+    repeated-requires returns-3 returns-4 returns-5)

@@ -22,14 +22,5 @@ returns-4 c = rw (← c .before .before .check .ensures, c .enum-told3 .given .1
 pub read-spec : {M : Type 1} → statement M
 read-spec =
     tie.close
-    (tie.spec
-    (λ c κs. search needs)
-    (λ c. search needs)
-    all-bodies-requires
-    (λ c. search needs)
-    (λ c. search needs)
-    (λ c. search needs)
-    returns
-    returns-2
-    returns-3
-    returns-4)
+    (tie.spec (λ c κs. search needs) (λ c. search needs) all-bodies-requires (λ c. search needs) (λ c. search needs)
+    (λ c. search needs) returns returns-2 returns-3 returns-4)

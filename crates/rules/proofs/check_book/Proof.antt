@@ -29,12 +29,5 @@ returns-2 c =
 pub check-book-spec : {M : Type 1} → statement M
 check-book-spec =
     tie.close
-    (tie.spec
-    of-requires
-    (λ c κs. search needs)
-    (λ c κs. search needs)
-    (λ c κs. search needs)
-    returns
-    (λ c κs. search needs)
-    (λ c κs. search needs)
-    returns-2)
+    (tie.spec of-requires (λ c κs. search needs) (λ c κs. search needs) (λ c κs. search needs) returns
+    (λ c κs. search needs) (λ c κs. search needs) returns-2)

@@ -52,6 +52,7 @@ first-of-requires c κs =
 
 loop-holds : tie.Need-loop-holds Inv-loop μ-loop
 loop-holds c =
+    let first-rule = c .before .before .before .before .before .before .first-rule in
     let first-of = c .before .before .before .before .before .first-of in
     let word = c .before .before .before .before .word in
     let a = c .before .before .before .before .before .before .before .before .args in
@@ -60,7 +61,7 @@ loop-holds c =
     let h = q .0 in
     let r = a .r in
     let l = q .2 in
-    let f : first-of .result ≡ ruleFirst w r = first-of .ensures .0 ∙ ap (λ (b : ℕ). firstOf w (b + r)) (first-rule-is (q .1) (c .before .before .before .before .before .before .first-rule .ensures)) in
+    let f : first-of .result ≡ ruleFirst w r = first-of .ensures .0 ∙ ap (λ (b : ℕ). firstOf w (b + r)) (first-rule-is (q .1) (first-rule .ensures)) in
     (c .before .size2 .ensures .0 ∙ c .before .before .word2 .ensures ∙ ap (λ (x : ℕ). getD w (x + 1) 0) f, search needs, ap (λ (x : ℕ). x + 2) f, rw (c .first .ensures, c .before .before .before .size .ensures .0, word .ensures, f) (bound-start w r h l), rw (c .first .ensures) (length-first _), λ k m. absurd (omega arith))
 
 instr-at-requires : tie.Need-instr-at-requires Inv-loop μ-loop
@@ -124,27 +125,7 @@ returns-2 c =
 pub check-rule-spec : {M : Type 1} → statement M
 check-rule-spec =
     tie.close
-    (tie.spec
-    Inv-loop
-    μ-loop
-    (λ c κs. search needs)
-    add-first-of
-    first-of-requires
-    (λ c κs. search needs)
-    (λ c κs. search needs)
-    (λ c. search needs)
-    (λ c κs. search needs)
-    (λ c κs. search needs)
-    (λ c κs. search needs)
-    (λ c. search needs)
-    loop-holds
-    instr-at-requires
-    check-instr-requires
-    (λ c κs. search needs)
-    returns
-    bind-dst-requires
-    next-requires
-    (λ c. search needs)
-    (λ c. search needs)
-    loop-again
-    returns-2)
+    (tie.spec Inv-loop μ-loop (λ c κs. search needs) add-first-of first-of-requires (λ c κs. search needs)
+    (λ c κs. search needs) (λ c. search needs) (λ c κs. search needs) (λ c κs. search needs) (λ c κs. search needs)
+    (λ c. search needs) loop-holds instr-at-requires check-instr-requires (λ c κs. search needs) returns
+    bind-dst-requires next-requires (λ c. search needs) (λ c. search needs) loop-again returns-2)

@@ -49,15 +49,5 @@ returns-2 c =
 pub check-rules-spec : {M : Type 1} → statement M
 check-rules-spec =
     tie.close
-    (tie.spec
-    Inv-loop
-    μ-loop
-    (λ c κs. search needs)
-    loop-holds
-    check-rule-requires
-    (λ c κs. search needs)
-    returns
-    (λ c. search needs)
-    (λ c. search needs)
-    loop-again
-    returns-2)
+    (tie.spec Inv-loop μ-loop (λ c κs. search needs) loop-holds check-rule-requires (λ c κs. search needs) returns
+    (λ c. search needs) (λ c. search needs) loop-again returns-2)

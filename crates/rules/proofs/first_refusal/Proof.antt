@@ -48,18 +48,6 @@ returns-6 c =
 pub first-refusal-spec : {M : Type 1} → statement M
 first-refusal-spec =
     tie.close
-    (tie.spec
-    (λ c κs. search needs)
-    (λ c. search needs)
-    check-book-requires
-    (λ c. search needs)
-    (λ c. search needs)
-    (λ c. search needs)
-    (λ c. search needs)
-    (λ c. search needs)
-    returns
-    returns-2
-    returns-3
-    returns-4
-    returns-5
+    (tie.spec (λ c κs. search needs) (λ c. search needs) check-book-requires (λ c. search needs) (λ c. search needs)
+    (λ c. search needs) (λ c. search needs) (λ c. search needs) returns returns-2 returns-3 returns-4 returns-5
     returns-6)

@@ -31,16 +31,18 @@ step-fits-requires c κs =
 
 add-t8 : tie.Need-add-t8 Inv-loop μ-loop
 add-t8 c =
+    let a2 = c .before .before .before .before .before .before .before .args in
     let pre = c .before .before .before .before .before .before .before .pre in
     let a = c .before .before .before .before .loop in
-    omega (arith, first-step-is (pre .1) (c .first-step .ensures), step-entry (now (c .before .before .before .before .before .before .before .args .words)) (pre .0) (a .k) (omega (arith, a .inv .0, c .before .before .before .loop-test .taken)))
+    omega (arith, first-step-is (pre .1) (c .first-step .ensures), step-entry (now (a2 .words)) (pre .0) (a .k) (omega (arith, a .inv .0, c .before .before .before .loop-test .taken)))
 
 returns : tie.Need-returns Inv-loop μ-loop
 returns c =
+    let pre = c .before .before .before .before .before .before .before .pre in
     let a2 = c .before .before .before .before .before .before .before .args in
     let a = c .before .before .before .before .loop in
     let w = now (a2 .words) in
-    rw (first-step-is (c .before .before .before .before .before .before .before .pre .1) (c .first-step .ensures)) (steps-stop w (a .k) (omega (arith, a .inv .0, c .before .before .before .loop-test .taken)) (a .inv .2) (sym (c .before .before .step-fits .ensures) ∙ not-true _ (c .before .if1 .taken)))
+    rw (first-step-is (pre .1) (c .first-step .ensures)) (steps-stop w (a .k) (omega (arith, a .inv .0, c .before .before .before .loop-test .taken)) (a .inv .2) (sym (c .before .before .step-fits .ensures) ∙ not-true _ (c .before .if1 .taken)))
 
 loop-again : tie.Need-loop-again Inv-loop μ-loop
 loop-again c =
@@ -57,16 +59,5 @@ returns-2 c =
 pub fit-steps-spec : {M : Type 1} → statement M
 fit-steps-spec =
     tie.close
-    (tie.spec
-    Inv-loop
-    μ-loop
-    (λ c κs. search needs)
-    loop-holds
-    step-fits-requires
-    (λ c κs. search needs)
-    add-t8
-    returns
-    (λ c. search needs)
-    (λ c. search needs)
-    loop-again
-    returns-2)
+    (tie.spec Inv-loop μ-loop (λ c κs. search needs) loop-holds step-fits-requires (λ c κs. search needs) add-t8 returns
+    (λ c. search needs) (λ c. search needs) loop-again returns-2)

@@ -23,16 +23,18 @@ add-i c =
 
 run-batch-requires : tie.Need-run-batch-requires
 run-batch-requires c κs =
+    let first-step = c .before .before .before .before .before .first-step in
     let q = c .before .before .before .before .before .before .before .before .before .before .before .before .pre in
-    let here = c .before .before .before .before .before .first-step .ensures in
+    let here = first-step .ensures in
     (q .0, q .1, q .2, step-here (q .2) here _ (q .3), kind-here (q .2) here _ (q .4), q .6, q .7)
 
 -- the batch has at most 256 lanes, and its body at most 8483 words
 few : (c : tie.After-run-batch) → c .run-batch .result .bindings .matches ≤ 256
 few c =
+    let first-step = c .before .before .before .before .before .before .first-step in
     let a = c .before .before .before .before .before .before .before .before .before .before .before .before .before .args in
     let q = c .before .before .before .before .before .before .before .before .before .before .before .before .before .pre in
-    let here = c .before .before .before .before .before .before .first-step .ensures in
+    let here = first-step .ensures in
     omega (arith, ap (λ (x : Running). x .batch .bindings .matches) (c .run-batch .ensures .0), lanes-most (q .0) (step-here (q .2) here _ (q .3)) (kind-here (q .2) here _ (q .4)) (a .p .state) (now (a .log)) (now (a .index)))
 
 most : (c : tie.After-write-batch) → c .write-batch .result ≤ c .before .before .before .before .before .before .before .before .before .before .before .before .before .before .before .before .before .before .before .before .before .before .before .before .before .args .p .at + 8483
@@ -53,12 +55,14 @@ advance-requires c κs = let q = c .before .before .before .before .before .befo
 returns : tie.Need-returns
 unfolding batchStep
 returns c =
+    let pre = c .before .before .before .before .before .before .before .before .before .before .before .before .before .before .before .before .before .before .before .before .before .before .before .before .before .before .before .before .pre in
+    let first-step = c .before .before .before .before .before .before .before .before .before .before .before .before .before .before .before .before .before .before .before .before .before .first-step in
     let going = c .before .before .before .before .before .before .before .going in
     let if1 = c .before .before .before .before .before .before .if1 in
     let a = c .before .before .before .before .before .before .before .before .before .before .before .before .before .before .before .before .before .before .before .before .before .before .before .before .before .before .before .before .args in
     let r = c .before .before .before .before .before .before .before .before .before .before .before .before .before .before .before .run-batch in
     let b = c .before .before .before .write-batch in
-    let here = entry-here (c .before .before .before .before .before .before .before .before .before .before .before .before .before .before .before .before .before .before .before .before .before .before .before .before .before .before .before .before .pre .2) (c .before .before .before .before .before .before .before .before .before .before .before .before .before .before .before .before .before .before .before .before .before .first-step .ensures) (a .p .done) in
+    let here = entry-here (pre .2) (first-step .ensures) (a .p .done) in
     let A : Ran = record { progress = a .p; bindings = now (a .bindings); log = now (a .log); index = now (a .index); answer = now (a .answer) } in
     let R : Running = record { batch = r .result; bindings = r .last .1 .1 .1 .1 .1 .0; log = r .last .1 .1 .1 .1 .1 .1 .0; index = r .last .1 .1 .1 .1 .1 .1 .1 .0 } in (
       batch-answered R A (c .advance .result) (b .last .1 .1 .1 .1 .0) (sym (going .ensures) ∙ if1 .taken) (c .advance .ensures ∙ ap (λ (e : ℕ). advanced (r .result .state) e (a .p)) (b .ensures .1)) (b .ensures .0)
@@ -70,9 +74,11 @@ returns c =
 returns-2 : tie.Need-returns-2
 unfolding batchStep
 returns-2 c =
+    let pre = c .before .before .before .before .before .before .before .before .before .before .before .before .before .before .before .before .before .before .before .before .before .before .before .pre in
+    let first-step = c .before .before .before .before .before .before .before .before .before .before .before .before .before .before .before .before .first-step in
     let a = c .before .before .before .before .before .before .before .before .before .before .before .before .before .before .before .before .before .before .before .before .before .before .before .args in
     let r = c .before .before .before .before .before .before .before .before .before .before .run-batch in
-    let here = entry-here (c .before .before .before .before .before .before .before .before .before .before .before .before .before .before .before .before .before .before .before .before .before .before .before .pre .2) (c .before .before .before .before .before .before .before .before .before .before .before .before .before .before .before .before .first-step .ensures) (a .p .done) in
+    let here = entry-here (pre .2) (first-step .ensures) (a .p .done) in
     let A : Ran = record { progress = a .p; bindings = now (a .bindings); log = now (a .log); index = now (a .index); answer = now (a .answer) } in
     let R : Running = record { batch = r .result; bindings = r .last .1 .1 .1 .1 .1 .0; log = r .last .1 .1 .1 .1 .1 .1 .0; index = r .last .1 .1 .1 .1 .1 .1 .1 .0 } in (
       batch-stopped R A (c .halt .result) (sym (c .before .before .going .ensures) ∙ c .before .if1 .left) (c .halt .ensures)
@@ -84,20 +90,6 @@ returns-2 c =
 pub batch-step-spec : {M : Type 1} → statement M
 batch-step-spec =
     tie.close
-    (tie.spec
-    (λ c κs. search needs)
-    add-i
-    run-batch-requires
-    (λ c κs. search needs)
-    write-batch-requires
-    advance-requires
-    (λ c. search needs)
-    (λ c. search needs)
-    (λ c. search needs)
-    (λ c. search needs)
-    returns
-    (λ c κs. search needs)
-    (λ c. search needs)
-    (λ c. search needs)
-    (λ c. search needs)
-    returns-2)
+    (tie.spec (λ c κs. search needs) add-i run-batch-requires (λ c κs. search needs) write-batch-requires
+    advance-requires (λ c. search needs) (λ c. search needs) (λ c. search needs) (λ c. search needs) returns
+    (λ c κs. search needs) (λ c. search needs) (λ c. search needs) (λ c. search needs) returns-2)

@@ -25,25 +25,30 @@ add-i c =
 
 run-prediction-requires : tie.Need-run-prediction-requires
 run-prediction-requires c κs =
+    let first-step = c .before .before .before .before .first-step in
     let q = c .before .before .before .before .before .before .before .before .before .before .before .pre in
-    let here = c .before .before .before .before .first-step .ensures in
+    let here = first-step .ensures in
     (q .0, q .1, step-here (q .2) here _ (q .3), kind-here (q .2) here _ (q .4), q .6)
 
 row-answered-requires : tie.Need-row-answered-requires
 row-answered-requires c κs =
+    let first-step = c .before .before .before .before .before .before .before .before .before .before .before .before .before .before .first-step in
     let q = c .before .before .before .before .before .before .before .before .before .before .before .before .before .before .before .before .before .before .before .before .before .pre in
-    let here = c .before .before .before .before .before .before .before .before .before .before .before .before .before .before .first-step .ensures in
+    let here = first-step .ensures in
     (q .0, q .1, step-here (q .2) here _ (q .3), kind-here (q .2) here _ (q .4))
 
 write-prediction-requires : tie.Need-write-prediction-requires
-write-prediction-requires c κs = omega (arith, c .before .before .before .before .before .before .before .before .before .before .before .before .before .before .before .before .before .before .before .before .before .before .before .pre .5 .at)
+write-prediction-requires c κs =
+    let pre = c .before .before .before .before .before .before .before .before .before .before .before .before .before .before .before .before .before .before .before .before .before .before .before .pre in
+    omega (arith, pre .5 .at)
 
 -- a prediction's body has at most 17 words
 most : (c : tie.After-write-prediction) → c .write-prediction .result ≤ c .before .before .before .before .before .before .before .before .before .before .before .before .before .before .before .before .before .before .before .before .before .before .before .before .args .p .at + 17
 most c =
+    let first-step = c .before .before .before .before .before .before .before .before .before .before .before .before .before .before .before .before .before .first-step in
     let q = c .before .before .before .before .before .before .before .before .before .before .before .before .before .before .before .before .before .before .before .before .before .before .before .before .pre in
     let r = c .before .before .before .before .before .before .before .before .before .before .before .before .run-prediction in
-    let here = c .before .before .before .before .before .before .before .before .before .before .before .before .before .before .before .before .before .first-step .ensures in
+    let here = first-step .ensures in
     omega (arith, c .write-prediction .ensures .1, ap length (c .before .before .row-answered .ensures), row-most (q .0) (step-here (q .2) here _ (q .3)) (kind-here (q .2) here _ (q .4)) (r .last .1 .1 .1 .1 .1 .0) (r .last .1 .1 .1 .1 .1 .1 .0))
 
 advance-requires : tie.Need-advance-requires
@@ -52,6 +57,7 @@ advance-requires c κs = let q = c .before .before .before .before .before .befo
 returns : tie.Need-returns
 unfolding predictionStep
 returns c =
+    let pre = c .before .before .before .before .before .before .before .before .before .before .before .before .before .before .before .before .before .before .before .before .before .before .before .before .before .before .before .pre in
     let going = c .before .before .before .before .before .before .before .before .before .going in
     let if1 = c .before .before .before .before .before .before .before .before .if1 in
     let row-answered2 = c .before .before .before .before .before .row-answered in
@@ -62,7 +68,7 @@ returns c =
     let row = row-answered2 .ensures in
     let first-step = c .before .before .before .before .before .before .before .before .before .before .before .before .before .before .before .before .before .before .before .before .first-step in
     let i = first-step .result + a .p .done in
-    let here = entry-here (c .before .before .before .before .before .before .before .before .before .before .before .before .before .before .before .before .before .before .before .before .before .before .before .before .before .before .before .pre .2) (first-step .ensures) (a .p .done) in
+    let here = entry-here (pre .2) (first-step .ensures) (a .p .done) in
     let A : Ran = record { progress = a .p; bindings = now (a .bindings); log = now (a .log); index = now (a .index); answer = now (a .answer) } in
     let G : Gotten = record { got = r .result; log = r .last .1 .1 .1 .1 .1 .0; index = r .last .1 .1 .1 .1 .1 .1 .0 } in (
       row-answered w (firstOf w i) G A (c .advance .result) (b .last .1 .1 .1 .0) (sym (going .ensures) ∙ if1 .taken)
@@ -75,12 +81,13 @@ returns c =
 returns-2 : tie.Need-returns-2
 unfolding predictionStep
 returns-2 c =
+    let pre = c .before .before .before .before .before .before .before .before .before .before .before .before .before .before .before .before .before .before .before .before .pre in
     let a = c .before .before .before .before .before .before .before .before .before .before .before .before .before .before .before .before .before .before .before .before .args in
     let w = now (a .words) in
     let r = c .before .before .before .before .before .before .before .before .run-prediction in
     let first-step = c .before .before .before .before .before .before .before .before .before .before .before .before .before .first-step in
     let i = first-step .result + a .p .done in
-    let here = entry-here (c .before .before .before .before .before .before .before .before .before .before .before .before .before .before .before .before .before .before .before .before .pre .2) (first-step .ensures) (a .p .done) in
+    let here = entry-here (pre .2) (first-step .ensures) (a .p .done) in
     let A : Ran = record { progress = a .p; bindings = now (a .bindings); log = now (a .log); index = now (a .index); answer = now (a .answer) } in
     let G : Gotten = record { got = r .result; log = r .last .1 .1 .1 .1 .1 .0; index = r .last .1 .1 .1 .1 .1 .1 .0 } in (
       row-stopped w (firstOf w i) G A (c .halt .result) (sym (c .before .before .going .ensures) ∙ c .before .if1 .left) (c .halt .ensures)
@@ -92,19 +99,6 @@ returns-2 c =
 pub prediction-step-spec : {M : Type 1} → statement M
 prediction-step-spec =
     tie.close
-    (tie.spec
-    (λ c κs. search needs)
-    add-i
-    run-prediction-requires
-    (λ c κs. search needs)
-    row-answered-requires
-    write-prediction-requires
-    advance-requires
-    (λ c. search needs)
-    (λ c. search needs)
-    (λ c. search needs)
-    returns
-    (λ c κs. search needs)
-    (λ c. search needs)
-    (λ c. search needs)
-    returns-2)
+    (tie.spec (λ c κs. search needs) add-i run-prediction-requires (λ c κs. search needs) row-answered-requires
+    write-prediction-requires advance-requires (λ c. search needs) (λ c. search needs) (λ c. search needs) returns
+    (λ c κs. search needs) (λ c. search needs) (λ c. search needs) returns-2)

@@ -33,19 +33,22 @@ loop-holds c = let q = c .before .before .before .before .before .before .before
 
 run-next-requires : tie.Need-run-next-requires Inv-loop μ-loop
 run-next-requires c κs =
+    let step-count = c .before .before .before .before .before .before .step-count in
     let a = c .before .before .before .before .before .before .before .before .before .before .before .before .before .args in
     let loop-test = c .before .before .before .before .loop-test in
     let q = c .before .before .before .before .before .before .before .before .before .before .before .before .before .pre in
     let l = c .before .before .before .before .before .loop in
-    let k : l .k < stepCount (now (a .words)) = omega (arith, loop-test .taken, c .before .before .before .before .before .before .step-count .ensures, q .2 .steps) in
+    let k : l .k < stepCount (now (a .words)) = omega (arith, loop-test .taken, step-count .ensures, q .2 .steps) in
     let few = few-steps (now (a .words)) (q .0) in
     (q .0, q .1, q .2, omega (arith, l .inv .6), record { done = omega (arith, l .inv .6); at = omega (arith, l .inv .7) }, record { used = omega (arith, l .inv .5, l .inv .2); short = omega (arith, q .5 .short, l .inv .2); slots = l .inv .3 ∙ q .5 .slots }, l .inv .1 ∙ q .6)
 
 add-k : tie.Need-add-k Inv-loop μ-loop
 add-k c =
+    let step-count = c .before .before .before .before .before .before .before .before .before .before .before .before .before .before .before .step-count in
+    let loop-test = c .before .before .before .before .before .before .before .before .before .before .before .before .before .loop-test in
     let a = c .before .before .before .before .before .before .before .before .before .before .before .before .before .before .before .before .before .before .before .before .before .before .args in
     let q = c .before .before .before .before .before .before .before .before .before .before .before .before .before .before .before .before .before .before .before .before .before .before .pre in
-    omega (arith, c .before .before .before .before .before .before .before .before .before .before .before .before .before .loop-test .taken, c .before .before .before .before .before .before .before .before .before .before .before .before .before .before .before .step-count .ensures, q .2 .steps, few-steps (now (a .words)) (q .0))
+    omega (arith, loop-test .taken, step-count .ensures, q .2 .steps, few-steps (now (a .words)) (q .0))
 
 loop-again : tie.Need-loop-again Inv-loop μ-loop
 loop-again c =
@@ -76,17 +79,5 @@ returns c =
 pub run-by-spec : {M : Type 1} → statement M
 run-by-spec =
     tie.close
-    (tie.spec
-    Inv-loop
-    μ-loop
-    (λ c κs. search needs)
-    loop-holds
-    run-next-requires
-    add-k
-    (λ c. search needs)
-    loop-again
-    (λ c. search needs)
-    (λ c. search needs)
-    (λ c. search needs)
-    (λ c. search needs)
-    returns)
+    (tie.spec Inv-loop μ-loop (λ c κs. search needs) loop-holds run-next-requires add-k (λ c. search needs) loop-again
+    (λ c. search needs) (λ c. search needs) (λ c. search needs) (λ c. search needs) returns)

@@ -25,22 +25,27 @@ kind-of-requires c κs =
 
 batch-step-requires : tie.Need-batch-step-requires
 batch-step-requires c κs =
+    let first-step = c .before .before .before .before .before .before .before .first-step in
+    let kind-of = c .before .before .before .before .before .kind-of in
+    let if2 = c .before .before .before .before .if2 in
     let a = c .before .before .before .before .before .before .before .before .before .before .before .before .before .before .before .before .before .args in
     let q = c .before .before .before .before .before .before .before .before .before .before .before .before .before .before .before .before .before .pre in
-    let here = entry-here (q .2) (c .before .before .before .before .before .before .before .first-step .ensures) (a .p .done) in
-    (q .0, q .1, q .2, q .3, ap (kindOf (now (a .words))) (sym here) ∙ sym (c .before .before .before .before .before .kind-of .ensures) ∙ c .before .before .before .before .if2 .taken, q .4, q .5, q .6)
+    let here = entry-here (q .2) (first-step .ensures) (a .p .done) in
+    (q .0, q .1, q .2, q .3, ap (kindOf (now (a .words))) (sym here) ∙ sym (kind-of .ensures) ∙ if2 .taken, q .4, q .5, q .6)
 
 returns : tie.Need-returns
 returns c =
+    let first-step = c .before .before .before .before .before .before .before .before .before .before .before .before .before .before .before .before .first-step in
+    let if2 = c .before .before .before .before .before .before .before .before .before .before .before .before .before .if2 in
     let going = c .before .before .before .before .before .before .before .before .before .before .before .before .before .before .before .before .before .before .going in
     let if1 = c .before .before .before .before .before .before .before .before .before .before .before .before .before .before .before .before .before .if1 in
     let kind-of = c .before .before .before .before .before .before .before .before .before .before .before .before .before .before .kind-of in
     let batch-step = c .before .before .before .before .before .before .before .before .batch-step in
     let a = c .before .before .before .before .before .before .before .before .before .before .before .before .before .before .before .before .before .before .before .before .before .before .before .before .before .before .args in
     let q = c .before .before .before .before .before .before .before .before .before .before .before .before .before .before .before .before .before .before .before .before .before .before .before .before .before .before .pre in
-    let here = entry-here (q .2) (c .before .before .before .before .before .before .before .before .before .before .before .before .before .before .before .before .first-step .ensures) (a .p .done) in
+    let here = entry-here (q .2) (first-step .ensures) (a .p .done) in
     let A : Ran = record { progress = a .p; bindings = now (a .bindings); log = now (a .log); index = now (a .index); answer = now (a .answer) } in
-    (batch-step .ensures .0 ∙ next-batch (now (a .words)) A (sym (going .ensures) ∙ if1 .taken) (ap (kindOf (now (a .words))) (sym here) ∙ sym (kind-of .ensures) ∙ c .before .before .before .before .before .before .before .before .before .before .before .before .before .if2 .taken), batch-step .ensures .1)
+    (batch-step .ensures .0 ∙ next-batch (now (a .words)) A (sym (going .ensures) ∙ if1 .taken) (ap (kindOf (now (a .words))) (sym here) ∙ sym (kind-of .ensures) ∙ if2 .taken), batch-step .ensures .1)
 
 -- the next step is a prediction
 asked : (c : tie.Else2) → kindOf (now (c .before .before .before .before .before .before .before .before .before .before .before .before .before .args .words)) (nextEntry (now (c .before .before .before .before .before .before .before .before .before .before .before .before .before .args .words)) (c .before .before .before .before .before .before .before .before .before .before .before .before .before .args .p)) ≡ 5
@@ -58,12 +63,13 @@ prediction-step-requires c κs =
 
 returns-2 : tie.Need-returns-2
 returns-2 c =
-    let going = c .before .before .before .before .before .before .before .before .before .before .before .before .before .before .before .before .going in
-    let if1 = c .before .before .before .before .before .before .before .before .before .before .before .before .before .before .before .if1 in
+    let before = c .before .before .before .before .before .before .before .before .before .before .before in
+    let going = before .before .before .before .before .before .going in
+    let if1 = before .before .before .before .before .if1 in
     let prediction-step = c .before .before .before .before .before .before .prediction-step in
-    let a = c .before .before .before .before .before .before .before .before .before .before .before .before .before .before .before .before .before .before .before .before .before .before .before .before .args in
+    let a = before .before .before .before .before .before .before .before .before .before .before .before .before .before .args in
     let A : Ran = record { progress = a .p; bindings = now (a .bindings); log = now (a .log); index = now (a .index); answer = now (a .answer) } in
-    (prediction-step .ensures .0 ∙ next-prediction (now (a .words)) A (sym (going .ensures) ∙ if1 .taken) (asked (c .before .before .before .before .before .before .before .before .before .before .before)), prediction-step .ensures .1)
+    (prediction-step .ensures .0 ∙ next-prediction (now (a .words)) A (sym (going .ensures) ∙ if1 .taken) (asked (before)), prediction-step .ensures .1)
 
 returns-3 : tie.Need-returns-3
 returns-3 c =
@@ -75,21 +81,6 @@ returns-3 c =
 pub run-next-spec : {M : Type 1} → statement M
 run-next-spec =
     tie.close
-    (tie.spec
-    (λ c κs. search needs)
-    (λ c κs. search needs)
-    add-kind-of
-    kind-of-requires
-    batch-step-requires
-    (λ c. search needs)
-    (λ c. search needs)
-    (λ c. search needs)
-    (λ c. search needs)
-    returns
-    prediction-step-requires
-    (λ c. search needs)
-    (λ c. search needs)
-    (λ c. search needs)
-    (λ c. search needs)
-    returns-2
-    returns-3)
+    (tie.spec (λ c κs. search needs) (λ c κs. search needs) add-kind-of kind-of-requires batch-step-requires
+    (λ c. search needs) (λ c. search needs) (λ c. search needs) (λ c. search needs) returns prediction-step-requires
+    (λ c. search needs) (λ c. search needs) (λ c. search needs) (λ c. search needs) returns-2 returns-3)

@@ -17,12 +17,13 @@ rows-before-requires c κs =
 
 run-indexed-requires : tie.Need-run-indexed-requires
 run-indexed-requires c κs =
+    let table-count = c .before .before .before .before .before .before .before .table-count in
     let rows-before = c .before .before .before .before .before .before .rows-before in
     let serves = c .before .before .before .before .before .serves in
     let if1 = c .before .before .before .before .if1 in
     let q = c .before .before .before .before .before .before .before .before .before .before .before .before .before .pre in
     let few = serves-few (rows-before .result) (sym (serves .ensures) ∙ if1 .taken) in
-    (q .0, q .1, rw (rows-before .ensures, c .before .before .before .before .before .before .before .table-count .ensures, q .1 .tables) at few, q .2, q .3, q .4, q .5)
+    (q .0, q .1, rw (rows-before .ensures, table-count .ensures, q .1 .tables) at few, q .2, q .3, q .4, q .5)
 
 run-by-requires : tie.Need-run-by-requires
 run-by-requires c κs =
@@ -32,20 +33,7 @@ run-by-requires c κs =
 pub run-steps-spec : {M : Type 1} → statement M
 run-steps-spec =
     tie.close
-    (tie.spec
-    (λ c κs. search needs)
-    rows-before-requires
-    (λ c κs. search needs)
-    run-indexed-requires
-    (λ c. search needs)
-    (λ c. search needs)
-    (λ c. search needs)
-    (λ c. search needs)
-    (λ c. search needs)
-    (λ c. search needs)
-    run-by-requires
-    (λ c. search needs)
-    (λ c. search needs)
-    (λ c. search needs)
-    (λ c. search needs)
+    (tie.spec (λ c κs. search needs) rows-before-requires (λ c κs. search needs) run-indexed-requires
+    (λ c. search needs) (λ c. search needs) (λ c. search needs) (λ c. search needs) (λ c. search needs)
+    (λ c. search needs) run-by-requires (λ c. search needs) (λ c. search needs) (λ c. search needs) (λ c. search needs)
     (λ c. search needs))

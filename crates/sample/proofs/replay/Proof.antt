@@ -44,25 +44,8 @@ run-at-requires c κs =
 pub replay-spec : {M : Type 1} → statement M
 replay-spec =
     tie.close
-    (tie.spec
-    (λ c κs. search needs)
-    (λ c. search needs)
-    (λ c κs. search needs)
-    (λ c. search needs)
-    (λ c κs. search needs)
-    (λ c. search needs)
-    (λ c κs. search needs)
-    (λ c. search needs)
-    (λ c κs. search needs)
-    (λ c. search needs)
-    slice-aggregate-run-at
-    (λ c. search needs)
-    slice-aggregate-run-at-2
-    (λ c. search needs)
-    slice-aggregate-run-at-3
-    (λ c. search needs)
-    slice-aggregate-run-at-4
-    (λ c. search needs)
-    slice-aggregate-run-at-5
-    run-at-requires
-    (λ c. search needs))
+    (tie.spec (λ c κs. search needs) (λ c. search needs) (λ c κs. search needs) (λ c. search needs)
+    (λ c κs. search needs) (λ c. search needs) (λ c κs. search needs) (λ c. search needs) (λ c κs. search needs)
+    (λ c. search needs) slice-aggregate-run-at (λ c. search needs) slice-aggregate-run-at-2 (λ c. search needs)
+    slice-aggregate-run-at-3 (λ c. search needs) slice-aggregate-run-at-4 (λ c. search needs) slice-aggregate-run-at-5
+    run-at-requires (λ c. search needs))

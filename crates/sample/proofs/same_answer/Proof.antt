@@ -17,13 +17,5 @@ same-words-requires c κs =
 pub same-answer-spec : {M : Type 1} → statement M
 same-answer-spec =
     tie.close
-    (tie.spec
-    slice-aggregate-same-words
-    same-words-requires
-    (λ c. search needs)
-    (λ c. search needs)
-    (λ c. search needs)
-    (λ c. search needs)
-    (λ c κs. search needs)
-    (λ c. search needs)
-    (λ c. search needs))
+    (tie.spec slice-aggregate-same-words same-words-requires (λ c. search needs) (λ c. search needs) (λ c. search needs)
+    (λ c. search needs) (λ c κs. search needs) (λ c. search needs) (λ c. search needs))

@@ -21,11 +21,5 @@ returns c = c .words-at .ensures ∙ rw (c .before .size .ensures .0, c .before 
 pub key-asked-spec : {M : Type 1} → statement M
 key-asked-spec =
     tie.close
-    (tie.spec
-    first-of-requires
-    (λ c. search needs)
-    (λ c κs. search needs)
-    (λ c κs. search needs)
-    (λ c. search needs)
-    words-at-requires
-    returns)
+    (tie.spec first-of-requires (λ c. search needs) (λ c κs. search needs) (λ c κs. search needs) (λ c. search needs)
+    words-at-requires returns)

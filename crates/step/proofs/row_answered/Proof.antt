@@ -30,10 +30,5 @@ returns c =
 pub row-answered-spec : {M : Type 1} → statement M
 row-answered-spec =
     tie.close
-    (tie.spec
-    first-of-requires
-    (λ c κs. search needs)
-    (λ c κs. search needs)
-    key-asked-requires
-    row-of-requires
+    (tie.spec first-of-requires (λ c κs. search needs) (λ c κs. search needs) key-asked-requires row-of-requires
     returns)

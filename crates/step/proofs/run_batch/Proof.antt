@@ -80,24 +80,7 @@ returns c =
 pub run-batch-spec : {M : Type 1} → statement M
 run-batch-spec =
     tie.close
-    (tie.spec
-    first-of-requires
-    (λ c κs. search needs)
-    (λ c κs. search needs)
-    (λ c. search needs)
-    (λ c κs. search needs)
-    (λ c κs. search needs)
-    (λ c. search needs)
-    (λ c κs. search needs)
-    (λ c κs. search needs)
-    (λ c κs. search needs)
-    (λ c. search needs)
-    load-requires
-    (λ c κs. search needs)
-    (λ c κs. search needs)
-    (λ c κs. search needs)
-    run-instrs-requires
-    same-length
-    (λ c. search needs)
-    (λ c. search needs)
-    returns)
+    (tie.spec first-of-requires (λ c κs. search needs) (λ c κs. search needs) (λ c. search needs) (λ c κs. search needs)
+    (λ c κs. search needs) (λ c. search needs) (λ c κs. search needs) (λ c κs. search needs) (λ c κs. search needs)
+    (λ c. search needs) load-requires (λ c κs. search needs) (λ c κs. search needs) (λ c κs. search needs)
+    run-instrs-requires same-length (λ c. search needs) (λ c. search needs) returns)

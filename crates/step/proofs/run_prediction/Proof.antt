@@ -43,18 +43,6 @@ returns c =
 pub run-prediction-spec : {M : Type 1} → statement M
 run-prediction-spec =
     tie.close
-    (tie.spec
-    first-of-requires
-    (λ c. search needs)
-    (λ c κs. search needs)
-    (λ c κs. search needs)
-    (λ c κs. search needs)
-    (λ c κs. search needs)
-    (λ c. search needs)
-    (λ c. search needs)
-    (λ c κs. search needs)
-    key-asked-requires
-    predict-val-requires
-    (λ c. search needs)
-    (λ c. search needs)
-    returns)
+    (tie.spec first-of-requires (λ c. search needs) (λ c κs. search needs) (λ c κs. search needs) (λ c κs. search needs)
+    (λ c κs. search needs) (λ c. search needs) (λ c. search needs) (λ c κs. search needs) key-asked-requires
+    predict-val-requires (λ c. search needs) (λ c. search needs) returns)

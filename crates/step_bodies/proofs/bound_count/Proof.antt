@@ -41,13 +41,5 @@ returns c =
 pub bound-count-spec : {M : Type 1} → statement M
 bound-count-spec =
     tie.close
-    (tie.spec
-    Inv-loop
-    μ-loop
-    (λ c. search needs)
-    (λ c. search needs)
-    add-n
-    (λ c. search needs)
-    (λ c. search needs)
-    loop-again
-    returns)
+    (tie.spec Inv-loop μ-loop (λ c. search needs) (λ c. search needs) add-n (λ c. search needs) (λ c. search needs)
+    loop-again returns)

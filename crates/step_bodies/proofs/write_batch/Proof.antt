@@ -107,28 +107,7 @@ returns-2 c =
 pub write-batch-spec : {M : Type 1} → statement M
 write-batch-spec =
     tie.close
-    (tie.spec
-    (λ c κs. search needs)
-    (λ c. search needs)
-    (λ c. search needs)
-    mul-end
-    add-end-3
-    add-end-4
-    returns
-    (λ c κs. search needs)
-    cast-answer
-    (λ c. search needs)
-    (λ c. search needs)
-    (λ c. search needs)
-    (λ c. search needs)
-    (λ c. search needs)
-    slice-write-answer-2
-    cast-answer-3
-    (λ c. search needs)
-    (λ c. search needs)
-    slice-write-answer-3
-    (λ c. search needs)
-    write-columns-requires
-    write-live-requires
-    same-length
-    returns-2)
+    (tie.spec (λ c κs. search needs) (λ c. search needs) (λ c. search needs) mul-end add-end-3 add-end-4 returns
+    (λ c κs. search needs) cast-answer (λ c. search needs) (λ c. search needs) (λ c. search needs) (λ c. search needs)
+    (λ c. search needs) slice-write-answer-2 cast-answer-3 (λ c. search needs) (λ c. search needs) slice-write-answer-3
+    (λ c. search needs) write-columns-requires write-live-requires same-length returns-2)

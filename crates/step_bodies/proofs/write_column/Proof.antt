@@ -57,18 +57,6 @@ returns-2 c = rw (c .if1 .left) (refl, omega arith)
 pub write-column-spec : {M : Type 1} → statement M
 write-column-spec =
     tie.close
-    (tie.spec
-    (λ c. search needs)
-    (λ c. search needs)
-    (λ c. search needs)
-    slice-write-answer
-    (λ c. search needs)
-    (λ c. search needs)
-    (λ c. search needs)
-    (λ c. search needs)
-    (λ c. search needs)
-    add-write-2
-    write-requires
-    same-length
-    returns
-    returns-2)
+    (tie.spec (λ c. search needs) (λ c. search needs) (λ c. search needs) slice-write-answer (λ c. search needs)
+    (λ c. search needs) (λ c. search needs) (λ c. search needs) (λ c. search needs) add-write-2 write-requires
+    same-length returns returns-2)

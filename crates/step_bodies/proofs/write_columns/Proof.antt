@@ -48,15 +48,5 @@ returns c =
 pub write-columns-spec : {M : Type 1} → statement M
 write-columns-spec =
     tie.close
-    (tie.spec
-    Inv-loop
-    μ-loop
-    loop-holds
-    (λ c. search needs)
-    (λ c. search needs)
-    write-column-requires
-    (λ c. search needs)
-    (λ c. search needs)
-    loop-again
-    (λ c. search needs)
-    returns)
+    (tie.spec Inv-loop μ-loop loop-holds (λ c. search needs) (λ c. search needs) write-column-requires
+    (λ c. search needs) (λ c. search needs) loop-again (λ c. search needs) returns)

@@ -35,14 +35,5 @@ returns-2 c =
 pub write-prediction-spec : {M : Type 1} → statement M
 write-prediction-spec =
     tie.close
-    (tie.spec
-    (λ c. search needs)
-    (λ c. search needs)
-    returns
-    (λ c κs. search needs)
-    (λ c. search needs)
-    (λ c. search needs)
-    (λ c. search needs)
-    write-requires
-    same-length
-    returns-2)
+    (tie.spec (λ c. search needs) (λ c. search needs) returns (λ c κs. search needs) (λ c. search needs)
+    (λ c. search needs) (λ c. search needs) write-requires same-length returns-2)

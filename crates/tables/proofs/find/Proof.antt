@@ -56,14 +56,5 @@ returns-2 c =
 pub find-spec : {M : Type 1} → statement M
 find-spec =
     tie.close
-    (tie.spec
-    Inv-loop
-    μ-loop
-    loop-holds
-    same-words-requires
-    returns
-    add-at
-    (λ c. search needs)
-    (λ c. search needs)
-    loop-again
-    returns-2)
+    (tie.spec Inv-loop μ-loop loop-holds same-words-requires returns add-at (λ c. search needs) (λ c. search needs)
+    loop-again returns-2)

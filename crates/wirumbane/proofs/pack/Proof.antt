@@ -11,13 +11,5 @@ returns-2 c = rw (c .before .before .outcome2 .given .1, c .before .known-told2 
 pub pack-spec : {M : Type 1} → statement M
 pack-spec =
     tie.close
-    (tie.spec
-    (λ c. search needs)
-    (λ c κs. search needs)
-    (λ c. search needs)
-    (λ c. search needs)
-    (λ c. search needs)
-    (λ c κs. search needs)
-    (λ c. search needs)
-    returns
-    returns-2)
+    (tie.spec (λ c. search needs) (λ c κs. search needs) (λ c. search needs) (λ c. search needs) (λ c. search needs)
+    (λ c κs. search needs) (λ c. search needs) returns returns-2)

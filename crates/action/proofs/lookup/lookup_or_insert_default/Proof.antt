@@ -29,11 +29,5 @@ returns c =
 pub lookup-or-insert-default-spec : {M : Type 1} → statement M
 lookup-or-insert-default-spec =
     tie.close
-    (tie.spec
-    fill-requires
-    (λ c κs. search needs)
-    serve-lanes-requires
-    (λ c. search needs)
-    (λ c. search needs)
-    (λ c. search needs)
-    returns)
+    (tie.spec fill-requires (λ c κs. search needs) serve-lanes-requires (λ c. search needs) (λ c. search needs)
+    (λ c. search needs) returns)

@@ -63,33 +63,9 @@ returns c =
 pub write-table-spec : {M : Type 1} → statement M
 write-table-spec =
     tie.close
-    (tie.spec
-    (λ c. search needs)
-    (λ c κs. search needs)
-    (λ c κs. search needs)
-    (λ c κs. search needs)
-    (λ c. search needs)
-    slice-write-answer
-    (λ c. search needs)
-    (λ c κs. search needs)
-    (λ c. search needs)
-    (λ c. search needs)
-    slice-write-answer-2
-    (λ c. search needs)
-    (λ c κs. search needs)
-    (λ c. search needs)
-    (λ c. search needs)
-    slice-write-answer-3
-    (λ c κs. search needs)
-    (λ c. search needs)
-    (λ c. search needs)
-    slice-write-answer-4
-    (λ c. search needs)
-    (λ c. search needs)
-    (λ c. search needs)
-    (λ c. search needs)
-    (λ c. search needs)
-    (λ c. search needs)
-    write-requires
-    same-length
-    returns)
+    (tie.spec (λ c. search needs) (λ c κs. search needs) (λ c κs. search needs) (λ c κs. search needs)
+    (λ c. search needs) slice-write-answer (λ c. search needs) (λ c κs. search needs) (λ c. search needs)
+    (λ c. search needs) slice-write-answer-2 (λ c. search needs) (λ c κs. search needs) (λ c. search needs)
+    (λ c. search needs) slice-write-answer-3 (λ c κs. search needs) (λ c. search needs) (λ c. search needs)
+    slice-write-answer-4 (λ c. search needs) (λ c. search needs) (λ c. search needs) (λ c. search needs)
+    (λ c. search needs) (λ c. search needs) write-requires same-length returns)

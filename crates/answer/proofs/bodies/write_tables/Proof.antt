@@ -71,16 +71,5 @@ returns c =
 pub write-tables-spec : {M : Type 1} → statement M
 write-tables-spec =
     tie.close
-    (tie.spec
-    Inv-loop
-    μ-loop
-    loop-holds
-    (λ c. search needs)
-    write-table-requires
-    rows-length-requires
-    add-from
-    (λ c. search needs)
-    (λ c. search needs)
-    loop-again
-    (λ c. search needs)
-    returns)
+    (tie.spec Inv-loop μ-loop loop-holds (λ c. search needs) write-table-requires rows-length-requires add-from
+    (λ c. search needs) (λ c. search needs) loop-again (λ c. search needs) returns)

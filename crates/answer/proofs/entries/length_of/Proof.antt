@@ -44,13 +44,5 @@ returns c =
 pub length-of-spec : {M : Type 1} → statement M
 length-of-spec =
     tie.close
-    (tie.spec
-    Inv-loop
-    μ-loop
-    loop-holds
-    (λ c κs. search needs)
-    add-s
-    (λ c. search needs)
-    (λ c. search needs)
-    loop-again
+    (tie.spec Inv-loop μ-loop loop-holds (λ c κs. search needs) add-s (λ c. search needs) (λ c. search needs) loop-again
     returns)

@@ -65,17 +65,5 @@ returns c =
 pub write-entries-spec : {M : Type 1} → statement M
 write-entries-spec =
     tie.close
-    (tie.spec
-    Inv-loop
-    μ-loop
-    loop-holds
-    (λ c κs. search needs)
-    (λ c. search needs)
-    (λ c. search needs)
-    write-entry-requires
-    add-first
-    (λ c. search needs)
-    (λ c. search needs)
-    loop-again
-    (λ c. search needs)
-    returns)
+    (tie.spec Inv-loop μ-loop loop-holds (λ c κs. search needs) (λ c. search needs) (λ c. search needs)
+    write-entry-requires add-first (λ c. search needs) (λ c. search needs) loop-again (λ c. search needs) returns)

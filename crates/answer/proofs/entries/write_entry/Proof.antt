@@ -21,16 +21,6 @@ returns c =
 pub write-entry-spec : {M : Type 1} → statement M
 write-entry-spec =
     tie.close
-    (tie.spec
-    (λ c. search needs)
-    (λ c. search needs)
-    (λ c. search needs)
-    (λ c. search needs)
-    (λ c. search needs)
-    slice-write-answer-2
-    (λ c. search needs)
-    (λ c. search needs)
-    (λ c. search needs)
-    slice-write-answer-3
-    (λ c. search needs)
-    returns)
+    (tie.spec (λ c. search needs) (λ c. search needs) (λ c. search needs) (λ c. search needs) (λ c. search needs)
+    slice-write-answer-2 (λ c. search needs) (λ c. search needs) (λ c. search needs) slice-write-answer-3
+    (λ c. search needs) returns)

@@ -31,11 +31,5 @@ insert-all-requires c κs =
 pub insert-indexed-spec : {M : Type 1} → statement M
 insert-indexed-spec =
     tie.close
-    (tie.spec
-    (λ c κs. search needs)
-    (λ c. search needs)
-    build-requires
-    (λ c. search needs)
-    insert-all-requires
-    (λ c. search needs)
-    (λ c. search needs))
+    (tie.spec (λ c κs. search needs) (λ c. search needs) build-requires (λ c. search needs) insert-all-requires
+    (λ c. search needs) (λ c. search needs))

@@ -11,12 +11,5 @@ insert-all-requires c κs = let p = c .before .before .before .before .before .b
 pub insert-rows-spec : {M : Type 1} → statement M
 insert-rows-spec =
     tie.close
-    (tie.spec
-    (λ c κs. search needs)
-    (λ c κs. search needs)
-    (λ c. search needs)
-    (λ c. search needs)
-    (λ c. search needs)
-    insert-all-requires
-    (λ c. search needs)
-    (λ c. search needs))
+    (tie.spec (λ c κs. search needs) (λ c κs. search needs) (λ c. search needs) (λ c. search needs) (λ c. search needs)
+    insert-all-requires (λ c. search needs) (λ c. search needs))

@@ -44,13 +44,5 @@ returns c =
 pub any-removal-spec : {M : Type 1} → statement M
 any-removal-spec =
     tie.close
-    (tie.spec
-    Inv-loop
-    μ-loop
-    (λ c κs. search needs)
-    loop-holds
-    (λ c κs. search needs)
-    (λ c κs. search needs)
-    loop-less
-    loop-again
-    returns)
+    (tie.spec Inv-loop μ-loop (λ c κs. search needs) loop-holds (λ c κs. search needs) (λ c κs. search needs) loop-less
+    loop-again returns)

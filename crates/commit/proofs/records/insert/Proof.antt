@@ -58,19 +58,6 @@ returns-3 c =
 pub insert-spec : {M : Type 1} → statement M
 insert-spec =
     tie.close
-    (tie.spec
-    (λ c. search needs)
-    (λ c κs. search needs)
-    returns
-    (λ c κs. search needs)
-    returns-2
-    (λ c. search needs)
-    add-end
-    (λ c. search needs)
-    (λ c. search needs)
-    (λ c. search needs)
-    part-put-end
-    (λ c κs. search needs)
-    (λ c. search needs)
-    (λ c. search needs)
-    returns-3)
+    (tie.spec (λ c. search needs) (λ c κs. search needs) returns (λ c κs. search needs) returns-2 (λ c. search needs)
+    add-end (λ c. search needs) (λ c. search needs) (λ c. search needs) part-put-end (λ c κs. search needs)
+    (λ c. search needs) (λ c. search needs) returns-3)

@@ -70,15 +70,5 @@ returns c =
 pub insert-all-spec : {M : Type 1} → statement M
 insert-all-spec =
     tie.close
-    (tie.spec
-    Inv-loop
-    μ-loop
-    (λ c κs. search needs)
-    loop-holds
-    insert-requires
-    end-of-requires-2
-    loop-less
-    loop-again
-    (λ c. search needs)
-    (λ c. search needs)
-    returns)
+    (tie.spec Inv-loop μ-loop (λ c κs. search needs) loop-holds insert-requires end-of-requires-2 loop-less loop-again
+    (λ c. search needs) (λ c. search needs) returns)

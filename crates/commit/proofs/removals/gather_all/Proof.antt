@@ -64,14 +64,5 @@ returns c =
 pub gather-all-spec : {M : Type 1} → statement M
 gather-all-spec =
     tie.close
-    (tie.spec
-    Inv-loop
-    μ-loop
-    (λ c κs. search needs)
-    loop-holds
-    gather-requires
-    end-of-requires-2
-    loop-less
-    loop-again
-    (λ c. search needs)
-    returns)
+    (tie.spec Inv-loop μ-loop (λ c κs. search needs) loop-holds gather-requires end-of-requires-2 loop-less loop-again
+    (λ c. search needs) returns)

@@ -91,20 +91,7 @@ returns-2 c =
 pub keep-spec : {M : Type 1} → statement M
 keep-spec =
     tie.close
-    (tie.spec
-    gather-if-requires
-    (λ c. search needs)
-    (λ c κs. search needs)
-    slice-reshare-prefix-keep-indexed
-    slice-aggregate-keep-indexed
-    keep-indexed-requires
-    (λ c. search needs)
-    (λ c. search needs)
-    returns
-    slice-reshare-prefix-keep-all
-    slice-aggregate-keep-all
-    (λ c. search needs)
-    keep-all-requires
-    (λ c. search needs)
-    (λ c. search needs)
-    returns-2)
+    (tie.spec gather-if-requires (λ c. search needs) (λ c κs. search needs) slice-reshare-prefix-keep-indexed
+    slice-aggregate-keep-indexed keep-indexed-requires (λ c. search needs) (λ c. search needs) returns
+    slice-reshare-prefix-keep-all slice-aggregate-keep-all (λ c. search needs) keep-all-requires (λ c. search needs)
+    (λ c. search needs) returns-2)

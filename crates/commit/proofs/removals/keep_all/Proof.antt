@@ -95,18 +95,5 @@ returns c =
 pub keep-all-spec : {M : Type 1} → statement M
 keep-all-spec =
     tie.close
-    (tie.spec
-    Inv-loop
-    μ-loop
-    loop-holds
-    add-end
-    mul-keep-row
-    (λ c. search needs)
-    (λ c. search needs)
-    part-keep-row-end
-    keep-row-requires
-    add-i
-    (λ c. search needs)
-    loop-again
-    (λ c. search needs)
-    returns)
+    (tie.spec Inv-loop μ-loop loop-holds add-end mul-keep-row (λ c. search needs) (λ c. search needs) part-keep-row-end
+    keep-row-requires add-i (λ c. search needs) loop-again (λ c. search needs) returns)

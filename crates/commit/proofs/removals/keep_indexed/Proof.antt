@@ -13,10 +13,5 @@ keep-all-requires c κs = let p = c .before .before .before .before .before .bef
 pub keep-indexed-spec : {M : Type 1} → statement M
 keep-indexed-spec =
     tie.close
-    (tie.spec
-    (λ c. search needs)
-    build-requires
-    (λ c. search needs)
-    keep-all-requires
-    (λ c. search needs)
+    (tie.spec (λ c. search needs) build-requires (λ c. search needs) keep-all-requires (λ c. search needs)
     (λ c. search needs))

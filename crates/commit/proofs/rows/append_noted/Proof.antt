@@ -72,14 +72,5 @@ returns-3 c =
 pub append-noted-spec : {M : Type 1} → statement M
 append-noted-spec =
     tie.close
-    (tie.spec
-    append-requires
-    (λ c. search needs)
-    returns
-    (λ c. search needs)
-    returns-2
-    home-requires
-    add-requires
-    (λ c. search needs)
-    (λ c. search needs)
-    returns-3)
+    (tie.spec append-requires (λ c. search needs) returns (λ c. search needs) returns-2 home-requires add-requires
+    (λ c. search needs) (λ c. search needs) returns-3)

@@ -76,21 +76,7 @@ returns-2 c =
 pub put-spec : {M : Type 1} → statement M
 put-spec =
     tie.close
-    (tie.spec
-    (λ c κs. search needs)
-    (λ c κs. search needs)
-    (λ c. search needs)
-    add-merge-words
-    (λ c. search needs)
-    (λ c. search needs)
-    (λ c. search needs)
-    (λ c. search needs)
-    merge-words-requires
-    (λ c. search needs)
-    append-noted-requires
-    (λ c. search needs)
-    (λ c. search needs)
-    returns
-    (λ c. search needs)
-    (λ c. search needs)
+    (tie.spec (λ c κs. search needs) (λ c κs. search needs) (λ c. search needs) add-merge-words (λ c. search needs)
+    (λ c. search needs) (λ c. search needs) (λ c. search needs) merge-words-requires (λ c. search needs)
+    append-noted-requires (λ c. search needs) (λ c. search needs) returns (λ c. search needs) (λ c. search needs)
     returns-2)

@@ -69,16 +69,5 @@ returns c =
 pub build-all-spec : {M : Type 1} → statement M
 build-all-spec =
     tie.close
-    (tie.spec
-    Inv-loop
-    μ-loop
-    loop-holds
-    (λ c. search needs)
-    (λ c κs. search needs)
-    add-rows-requires
-    add-first
-    (λ c. search needs)
-    (λ c. search needs)
-    loop-again
-    same-length
-    returns)
+    (tie.spec Inv-loop μ-loop loop-holds (λ c. search needs) (λ c κs. search needs) add-rows-requires add-first
+    (λ c. search needs) (λ c. search needs) loop-again same-length returns)

@@ -38,14 +38,5 @@ returns c =
 pub rows-before-spec : {M : Type 1} → statement M
 rows-before-spec =
     tie.close
-    (tie.spec
-    Inv-loop
-    μ-loop
-    loop-holds
-    (λ c. search needs)
-    (λ c κs. search needs)
-    add-rows
-    (λ c. search needs)
-    (λ c. search needs)
-    loop-again
-    returns)
+    (tie.spec Inv-loop μ-loop loop-holds (λ c. search needs) (λ c κs. search needs) add-rows (λ c. search needs)
+    (λ c. search needs) loop-again returns)

@@ -26,30 +26,8 @@ returns-13 c = rw (c .before .self7 .given .1, c .known-told7 .given)
 pub dst-spec : {M : Type 1} → statement M
 dst-spec =
     tie.close
-    (tie.spec
-    (λ c. search needs)
-    (λ c. search needs)
-    (λ c. search needs)
-    (λ c. search needs)
-    (λ c. search needs)
-    (λ c. search needs)
-    (λ c. search needs)
-    (λ c. search needs)
-    (λ c. search needs)
-    (λ c. search needs)
-    (λ c. search needs)
-    (λ c. search needs)
-    (λ c. search needs)
-    returns
-    returns-2
-    returns-3
-    returns-4
-    (λ c. search needs)
-    (λ c. search needs)
-    (λ c. search needs)
-    returns-8
-    returns-9
-    (λ c. search needs)
-    (λ c. search needs)
-    (λ c. search needs)
-    returns-13)
+    (tie.spec (λ c. search needs) (λ c. search needs) (λ c. search needs) (λ c. search needs) (λ c. search needs)
+    (λ c. search needs) (λ c. search needs) (λ c. search needs) (λ c. search needs) (λ c. search needs)
+    (λ c. search needs) (λ c. search needs) (λ c. search needs) returns returns-2 returns-3 returns-4
+    (λ c. search needs) (λ c. search needs) (λ c. search needs) returns-8 returns-9 (λ c. search needs)
+    (λ c. search needs) (λ c. search needs) returns-13)

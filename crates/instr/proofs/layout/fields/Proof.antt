@@ -65,18 +65,5 @@ returns-14 c = rw (← fields-rest _ (c .match .rest)) (refl, refl)
 pub fields-spec : {M : Type 1} → statement M
 fields-spec =
     tie.close
-    (tie.spec
-    returns
-    returns-2
-    returns-3
-    returns-4
-    returns-5
-    returns-6
-    returns-7
-    returns-8
-    returns-9
-    returns-10
-    returns-11
-    returns-12
-    returns-13
-    returns-14)
+    (tie.spec returns returns-2 returns-3 returns-4 returns-5 returns-6 returns-7 returns-8 returns-9 returns-10
+    returns-11 returns-12 returns-13 returns-14)

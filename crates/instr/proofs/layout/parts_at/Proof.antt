@@ -36,8 +36,9 @@ loop-holds c = search needs
 
 loop-again : tie.Need-loop-again Inv-loop μ-loop
 loop-again c =
+    let fields = c .before .before .before .before .before .before .fields in
     let l = c .before .before .before .before .before .loop in
-    let fs = c .before .before .before .before .before .before .fields .result in
+    let fs = fields .result in
     let a = c .before .before .before .before .before .before .before .before .before .args in
     let w = now (a .words) in
     let q = past w (fieldsOf (take (l .k) fs)) (a .p + 1) in
@@ -62,22 +63,7 @@ returns c =
 pub parts-at-spec : {M : Type 1} → statement M
 parts-at-spec =
     tie.close
-    (tie.spec
-    Inv-loop
-    μ-loop
-    (λ c κs. search needs)
-    (λ c κs. search needs)
-    (λ c. search needs)
-    loop-holds
-    (λ c κs. search needs)
-    (λ c. search needs)
-    (λ c κs. search needs)
-    (λ c. search needs)
-    (λ c. search needs)
-    (λ c. search needs)
-    (λ c. search needs)
-    (λ c κs. search needs)
-    (λ c. search needs)
-    (λ c. search needs)
-    loop-again
+    (tie.spec Inv-loop μ-loop (λ c κs. search needs) (λ c κs. search needs) (λ c. search needs) loop-holds
+    (λ c κs. search needs) (λ c. search needs) (λ c κs. search needs) (λ c. search needs) (λ c. search needs)
+    (λ c. search needs) (λ c. search needs) (λ c κs. search needs) (λ c. search needs) (λ c. search needs) loop-again
     returns)

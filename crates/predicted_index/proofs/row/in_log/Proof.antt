@@ -31,17 +31,5 @@ returns-4 c = rw (← c .before .before .before .get .ensures .0, c .before .enu
 pub in-log-spec : {M : Type 1} → statement M
 in-log-spec =
     tie.close
-    (tie.spec
-    (λ c. search needs)
-    returns
-    (λ c κs. search needs)
-    (λ c. search needs)
-    add-part
-    (λ c κs. search needs)
-    (λ c. search needs)
-    (λ c. search needs)
-    (λ c. search needs)
-    (λ c. search needs)
-    returns-2
-    returns-3
-    returns-4)
+    (tie.spec (λ c. search needs) returns (λ c κs. search needs) (λ c. search needs) add-part (λ c κs. search needs)
+    (λ c. search needs) (λ c. search needs) (λ c. search needs) (λ c. search needs) returns-2 returns-3 returns-4)

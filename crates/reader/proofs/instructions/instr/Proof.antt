@@ -36,16 +36,5 @@ returns c =
 pub instr-spec : {M : Type 1} → statement M
 instr-spec =
     tie.close
-    (tie.spec
-    Inv-loop
-    μ-loop
-    (λ c κs. search needs)
-    (λ c κs. search needs)
-    (λ c κs. search needs)
-    loop-holds
-    (λ c. search needs)
-    (λ c κs. search needs)
-    (λ c. search needs)
-    (λ c. search needs)
-    loop-again
-    returns)
+    (tie.spec Inv-loop μ-loop (λ c κs. search needs) (λ c κs. search needs) (λ c κs. search needs) loop-holds
+    (λ c. search needs) (λ c κs. search needs) (λ c. search needs) (λ c. search needs) loop-again returns)

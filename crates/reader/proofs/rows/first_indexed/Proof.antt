@@ -11,9 +11,4 @@ first-repeat-requires c κs =
 pub first-indexed-spec : {M : Type 1} → statement M
 first-indexed-spec =
     tie.close
-    (tie.spec
-    (λ c. search needs)
-    (λ c κs. search needs)
-    (λ c. search needs)
-    first-repeat-requires
-    (λ c. search needs))
+    (tie.spec (λ c. search needs) (λ c κs. search needs) (λ c. search needs) first-repeat-requires (λ c. search needs))

@@ -60,14 +60,5 @@ returns-2 c =
 pub first-repeat-spec : {M : Type 1} → statement M
 first-repeat-spec =
     tie.close
-    (tie.spec
-    Inv-loop
-    μ-loop
-    loop-holds
-    is-repeat-requires
-    returns
-    add-own
-    (λ c. search needs)
-    (λ c. search needs)
-    loop-again
-    returns-2)
+    (tie.spec Inv-loop μ-loop loop-holds is-repeat-requires returns add-own (λ c. search needs) (λ c. search needs)
+    loop-again returns-2)

@@ -36,11 +36,5 @@ returns-2 c =
 pub repeated-spec : {M : Type 1} → statement M
 repeated-spec =
     tie.close
-    (tie.spec
-    (λ c κs. search needs)
-    (λ c κs. search needs)
-    first-indexed-requires
-    returns
-    (λ c. search needs)
-    first-repeat-requires
-    returns-2)
+    (tie.spec (λ c κs. search needs) (λ c κs. search needs) first-indexed-requires returns (λ c. search needs)
+    first-repeat-requires returns-2)

@@ -49,15 +49,5 @@ returns c =
 pub numbered-spec : {M : Type 1} → statement M
 numbered-spec =
     tie.close
-    (tie.spec
-    Inv-loop
-    μ-loop
-    (λ c κs. search needs)
-    (λ c κs. search needs)
-    loop-holds
-    entry-requires
-    (λ c. search needs)
-    (λ c. search needs)
-    loop-again
-    same-length
-    returns)
+    (tie.spec Inv-loop μ-loop (λ c κs. search needs) (λ c κs. search needs) loop-holds entry-requires
+    (λ c. search needs) (λ c. search needs) loop-again same-length returns)

@@ -57,14 +57,5 @@ returns c =
 pub records-spec : {M : Type 1} → statement M
 records-spec =
     tie.close
-    (tie.spec
-    Inv-loop
-    μ-loop
-    (λ c κs. search needs)
-    loop-holds
-    record-line-requires
-    (λ c κs. search needs)
-    loop-less
-    loop-again
-    same-length
-    returns)
+    (tie.spec Inv-loop μ-loop (λ c κs. search needs) loop-holds record-line-requires (λ c κs. search needs) loop-less
+    loop-again same-length returns)

@@ -17,14 +17,5 @@ returns-5 c = rw (c .before .self4 .given .1)
 pub verdict-spec : {M : Type 1} → statement M
 verdict-spec =
     tie.close
-    (tie.spec
-    (λ c. search needs)
-    (λ c. search needs)
-    (λ c. search needs)
-    (λ c. search needs)
-    (λ c. search needs)
-    (λ c. search needs)
-    returns-2
-    returns-3
-    returns-4
-    returns-5)
+    (tie.spec (λ c. search needs) (λ c. search needs) (λ c. search needs) (λ c. search needs) (λ c. search needs)
+    (λ c. search needs) returns-2 returns-3 returns-4 returns-5)

@@ -11,36 +11,30 @@ use Rattle.rules.proofs.fit.batch_fits.Tie as tie
 
 add-first-of : tie.Need-add-first-of
 add-first-of c =
+    let word = c .before .before .before .before .word in
     let a = c .before .before .before .before .before .before .args in
     let q = c .before .before .before .before .before .before .pre in
-    omega (arith, first-rule-is (q .1) (c .first-rule .ensures), c .before .before .before .size .ensures .0, c .before .before .before .before .word .ensures, rule-entry (now (a .words)) (q .0) _ (q .3))
+    omega (arith, first-rule-is (q .1) (c .first-rule .ensures), c .before .before .before .size .ensures .0, word .ensures, rule-entry (now (a .words)) (q .0) _ (q .3))
 
 first-of-requires : tie.Need-first-of-requires
 first-of-requires c κs =
+    let word = c .before .before .before .before .word in
     let a = c .before .before .before .before .before .before .args in
     let q = c .before .before .before .before .before .before .pre in
-    omega (arith, first-rule-is (q .1) (c .first-rule .ensures), c .before .before .before .size .ensures .0, c .before .before .before .before .word .ensures, rule-entry (now (a .words)) (q .0) _ (q .3))
+    omega (arith, first-rule-is (q .1) (c .first-rule .ensures), c .before .before .before .size .ensures .0, word .ensures, rule-entry (now (a .words)) (q .0) _ (q .3))
 
 returns : tie.Need-returns
 returns c =
+    let word2 = c .before .before .before .before .word2 in
     let word = c .before .before .before .before .before .before .word in
     let size = c .before .before .before .before .before .size in
     let a = c .before .before .before .before .before .before .before .before .args in
     let q = c .before .before .before .before .before .before .before .before .pre in
-    rw (c .word4 .ensures, c .before .first-of .ensures .0, first-rule-is (q .1) (c .before .before .first-rule .ensures), size .ensures .0, word .ensures, c .before .before .before .before .word2 .ensures, c .before .before .before .word3 .ensures) (sym (batch-test (now (a .words)) (q .0) (a .at) (q .3)))
+    rw (c .word4 .ensures, c .before .first-of .ensures .0, first-rule-is (q .1) (c .before .before .first-rule .ensures), size .ensures .0, word .ensures, word2 .ensures, c .before .before .before .word3 .ensures) (sym (batch-test (now (a .words)) (q .0) (a .at) (q .3)))
 
 pub batch-fits-spec : {M : Type 1} → statement M
 batch-fits-spec =
     tie.close
-    (tie.spec
-    (λ c κs. search needs)
-    (λ c κs. search needs)
-    (λ c. search needs)
-    (λ c κs. search needs)
-    (λ c. search needs)
-    (λ c κs. search needs)
-    (λ c κs. search needs)
-    add-first-of
-    first-of-requires
-    (λ c κs. search needs)
-    returns)
+    (tie.spec (λ c κs. search needs) (λ c κs. search needs) (λ c. search needs) (λ c κs. search needs)
+    (λ c. search needs) (λ c κs. search needs) (λ c κs. search needs) add-first-of first-of-requires
+    (λ c κs. search needs) returns)

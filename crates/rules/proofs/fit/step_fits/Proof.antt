@@ -84,12 +84,5 @@ returns-2 c =
 pub step-fits-spec : {M : Type 1} → statement M
 step-fits-spec =
     tie.close
-    (tie.spec
-    (λ c κs. search needs)
-    add-i
-    kind-of-requires
-    first-of-requires
-    batch-fits-requires
-    prediction-fits-requires
-    returns
-    returns-2)
+    (tie.spec (λ c κs. search needs) add-i kind-of-requires first-of-requires batch-fits-requires
+    prediction-fits-requires returns returns-2)

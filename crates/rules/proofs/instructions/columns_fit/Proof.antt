@@ -126,36 +126,8 @@ returns-13 c = rw (c .enum-told9 .given .1)
 pub columns-fit-spec : {M : Type 1} → statement M
 columns-fit-spec =
     tie.close
-    (tie.spec
-    (λ c. search needs)
-    column-fits-requires
-    keys-of-requires
-    currents-fit-requires
-    (λ c. search needs)
-    column-fits-requires-2
-    (λ c. search needs)
-    column-fits-requires-3
-    (λ c. search needs)
-    column-fits-requires-4
-    (λ c. search needs)
-    (λ c. search needs)
-    (λ c. search needs)
-    (λ c. search needs)
-    (λ c. search needs)
-    (λ c. search needs)
-    (λ c. search needs)
-    (λ c. search needs)
-    (λ c. search needs)
-    returns
-    returns-2
-    returns-3
-    returns-4
-    returns-5
-    returns-6
-    returns-7
-    returns-8
-    returns-9
-    returns-10
-    returns-11
-    returns-12
-    returns-13)
+    (tie.spec (λ c. search needs) column-fits-requires keys-of-requires currents-fit-requires (λ c. search needs)
+    column-fits-requires-2 (λ c. search needs) column-fits-requires-3 (λ c. search needs) column-fits-requires-4
+    (λ c. search needs) (λ c. search needs) (λ c. search needs) (λ c. search needs) (λ c. search needs)
+    (λ c. search needs) (λ c. search needs) (λ c. search needs) (λ c. search needs) returns returns-2 returns-3
+    returns-4 returns-5 returns-6 returns-7 returns-8 returns-9 returns-10 returns-11 returns-12 returns-13)

@@ -148,50 +148,11 @@ returns-13 c = rw (c .enum-told .given .1)
 pub reads-known-spec : {M : Type 1} → statement M
 reads-known-spec =
     tie.close
-    (tie.spec
-    (λ c. search needs)
-    all-known-requires
-    all-known-requires-2
-    (λ c. search needs)
-    (λ c κs. search needs)
-    all-known-requires-3
-    (λ c. search needs)
-    all-known-requires-4
-    (λ c. search needs)
-    all-known-requires-5
-    all-known-requires-6
-    (λ c. search needs)
-    all-known-requires-7
-    (λ c. search needs)
-    (λ c κs. search needs)
-    (λ c κs. search needs)
-    all-known-requires-8
-    (λ c. search needs)
-    all-known-requires-9
-    (λ c. search needs)
-    all-known-requires-10
-    (λ c. search needs)
-    all-known-requires-11
-    all-known-requires-12
-    (λ c. search needs)
-    (λ c κs. search needs)
-    (λ c κs. search needs)
-    (λ c. search needs)
-    (λ c κs. search needs)
-    (λ c κs. search needs)
-    (λ c. search needs)
-    all-known-requires-13
-    (λ c. search needs)
-    returns
-    returns-2
-    returns-3
-    returns-4
-    returns-5
-    returns-6
-    returns-7
-    returns-8
-    returns-9
-    returns-10
-    returns-11
-    returns-12
-    returns-13)
+    (tie.spec (λ c. search needs) all-known-requires all-known-requires-2 (λ c. search needs) (λ c κs. search needs)
+    all-known-requires-3 (λ c. search needs) all-known-requires-4 (λ c. search needs) all-known-requires-5
+    all-known-requires-6 (λ c. search needs) all-known-requires-7 (λ c. search needs) (λ c κs. search needs)
+    (λ c κs. search needs) all-known-requires-8 (λ c. search needs) all-known-requires-9 (λ c. search needs)
+    all-known-requires-10 (λ c. search needs) all-known-requires-11 all-known-requires-12 (λ c. search needs)
+    (λ c κs. search needs) (λ c κs. search needs) (λ c. search needs) (λ c κs. search needs) (λ c κs. search needs)
+    (λ c. search needs) all-known-requires-13 (λ c. search needs) returns returns-2 returns-3 returns-4 returns-5
+    returns-6 returns-7 returns-8 returns-9 returns-10 returns-11 returns-12 returns-13)

@@ -172,42 +172,10 @@ returns-13 c = rw (c .enum-told3 .given .1)
 pub sizes-fit-spec : {M : Type 1} → statement M
 sizes-fit-spec =
     tie.close
-    (tie.spec
-    (λ c. search needs)
-    keys-fit-requires
-    row-fits-requires
-    (λ c. search needs)
-    keys-fit-requires-2
-    (λ c. search needs)
-    keys-fit-requires-3
-    (λ c. search needs)
-    keys-fit-requires-4
-    (λ c κs. search needs)
-    (λ c. search needs)
-    width-fits-requires
-    (λ c. search needs)
-    width-fits-requires-2
-    (λ c. search needs)
-    keys-fit-requires-5
-    (λ c. search needs)
-    (λ c κs. search needs)
-    (λ c. search needs)
-    (λ c κs. search needs)
-    (λ c κs. search needs)
-    (λ c. search needs)
-    (λ c. search needs)
-    (λ c. search needs)
-    (λ c. search needs)
-    returns
-    returns-2
-    returns-3
-    returns-4
-    returns-5
-    returns-6
-    returns-7
-    returns-8
-    returns-9
-    returns-10
-    returns-11
-    returns-12
+    (tie.spec (λ c. search needs) keys-fit-requires row-fits-requires (λ c. search needs) keys-fit-requires-2
+    (λ c. search needs) keys-fit-requires-3 (λ c. search needs) keys-fit-requires-4 (λ c κs. search needs)
+    (λ c. search needs) width-fits-requires (λ c. search needs) width-fits-requires-2 (λ c. search needs)
+    keys-fit-requires-5 (λ c. search needs) (λ c κs. search needs) (λ c. search needs) (λ c κs. search needs)
+    (λ c κs. search needs) (λ c. search needs) (λ c. search needs) (λ c. search needs) (λ c. search needs) returns
+    returns-2 returns-3 returns-4 returns-5 returns-6 returns-7 returns-8 returns-9 returns-10 returns-11 returns-12
     returns-13)

@@ -47,22 +47,6 @@ same-length-4 c = c .before .before .before .loop .inv .1
 pub read-all-spec : {M : Type 1} → statement M
 read-all-spec =
     tie.close
-    (tie.spec
-    Inv-loop
-    μ-loop
-    (λ c. search needs)
-    (λ c κs. search needs)
-    (λ c. search needs)
-    loop-less
-    loop-again
-    (λ c. search needs)
-    same-length
-    (λ c. search needs)
-    (λ c. search needs)
-    same-length-2
-    (λ c. search needs)
-    (λ c κs. search needs)
-    same-length-3
-    (λ c. search needs)
-    same-length-4
-    (λ c. search needs))
+    (tie.spec Inv-loop μ-loop (λ c. search needs) (λ c κs. search needs) (λ c. search needs) loop-less loop-again
+    (λ c. search needs) same-length (λ c. search needs) (λ c. search needs) same-length-2 (λ c. search needs)
+    (λ c κs. search needs) same-length-3 (λ c. search needs) same-length-4 (λ c. search needs))
