@@ -14,7 +14,8 @@ ghost use Prim.Native.Nat.{_≤_, _<_};
 ghost use lib.ListN.{length};
 ghost use Rattle.predicted_index.specs.Row.{Searchable};
 ghost use Rattle.instr.specs.Stands.{Short};
-ghost use Rattle.predict.specs.Predict.{Ready, stoppedBy, inserted, gotten, takenWord, servedLane, servedLanes, noted, answered, asGotten, asHeld, asServed};
+ghost use Rattle.predict.specs.Predict.{Ready, asGotten, asHeld, asServed};
+ghost use Rattle.predict.specs.Predict.{stoppedBy, inserted, gotten, takenWord, servedLane, servedLanes, noted, answered};
 
 // Which row is asked for: of which table, and the write values of a new one.
 pub struct Row {
