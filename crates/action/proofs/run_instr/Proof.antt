@@ -1,3 +1,4 @@
+-- `act` ensures the lanes, and `bind_dst` the bindings by what `dst` gives, a variable (`binds-variable`); `finished` of both is `ranInstr`.
 use mathlib.Core.Path.{ap}
 use denote.Ref.{now}
 use Rattle.instr.specs.Stands.{bindsOf}

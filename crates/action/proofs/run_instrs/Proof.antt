@@ -1,3 +1,4 @@
+-- After j turns p is the place of instruction j (`next-here`), and the batch and its memory are those after j (`iter-more`); at the end j is their number.
 use Prim.Native.Nat.{ℕ, _+_, _-_, _<_, _≤_}
 use mathlib.Core.Path.{_≡_, refl, ap, _∙_}
 use mathlib.Core.List.{List}

@@ -1,3 +1,4 @@
+-- By the test, which is that of `ranNext`, as not empty is any live: if it holds, `run_instr` ensures the whole; if not, both sides are the batch as it was.
 use mathlib.Core.Path.{_≡_}
 use mathlib.Core.Bool.{true, false, _&&_, Bool·not-not}
 use Rattle.model.specs.Machine.Steps.{anyLive}

@@ -1,3 +1,4 @@
+-- After i turns state and memory are those after i lanes (`iter-more`); at the end i is `end`, past which no lane is live and none changes them (`live-turns`).
 use Prim.Native.Nat.{_-_, _≤_}
 use mathlib.Core.Path.{_≡_, refl, _∙_}
 use mathlib.Core.Bool.{false}

@@ -1,3 +1,4 @@
+-- `contents` has the book's number of tables, and each stands (`table-stands`), so the words built are a `BookIndex`; `run_by` then ensures the whole.
 use mathlib.Core.Path.{refl, ap, _∙_}
 use mathlib.Core.Logic.{inr}
 use native.Mathlib.Omega.{arith}

@@ -1,3 +1,4 @@
+-- The contracts of both fills and of `difference`, one in the other, are `eitherWords`, and with that of `union` `eitherLanes`; `out` keeps its length.
 use mathlib.Core.Path.{_∙_}
 use borrow.Author.Needs.{needs}
 use Rattle.action.proofs.lookup.fill_or_else.Statement.{statement}

@@ -1,3 +1,4 @@
+-- By the instruction: in each arm the variable given is the one that `bindsOf` has there, or there is none on both sides.
 use borrow.Author.Needs.{needs}
 use Rattle.instr.proofs.Instr.dst.Statement.{statement}
 use Rattle.instr.proofs.Instr.dst.Tie as tie

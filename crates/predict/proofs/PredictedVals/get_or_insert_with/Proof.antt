@@ -1,3 +1,4 @@
+-- By the slot that `get` ensures, as `gotten` goes: a hit or none changes no word; a free one is a slot (`get-below`), and there `insert` ensures the whole.
 use mathlib.Core.Path.{sym, _∙_}
 use Rattle.predicted_index.specs.Home.{homeOf}
 use Rattle.predicted_index.specs.HomeLaws.{home-below}

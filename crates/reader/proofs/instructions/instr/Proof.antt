@@ -1,3 +1,4 @@
+-- After k turns t is the walk past k of the fields (`iter-more`); at the end k is 6, and since these are the form's fields, it is the model's (`instr-is`).
 use lib.ListN.{length}
 use Prim.Native.Nat.{_≤_, _-_}
 use mathlib.Core.Path.{_≡_, refl, _∙_}

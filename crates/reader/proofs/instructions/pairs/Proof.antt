@@ -1,3 +1,4 @@
+-- If the count is bad, so is the whole (`list-stops`); else t is the walk i pairs past it (`iter-more`), and at the end i is the count (`list-is`).
 use Rattle.reader.specs.ScanLaws.{list-is, list-stops, pair-bad}
 use Prim.Native.Nat.{_≤_, _-_}
 use mathlib.Core.Path.{_≡_, refl, sym, ap, _∙_}

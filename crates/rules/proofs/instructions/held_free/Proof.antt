@@ -1,3 +1,4 @@
+-- By the instruction: lists are tested against dst (`against-all`), two by `all-append`, write values by `writes-as-entries`; ten instructions have none.
 use mathlib.Core.Path.{refl}
 use denote.Ref.{now}
 use Rattle.model.specs.Check.{heldOf, free?}

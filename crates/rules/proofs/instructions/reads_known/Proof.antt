@@ -1,3 +1,4 @@
+-- By the instruction: the arm's tests are that of the model's one list, two lists by `all-append`, write values as entries by `writes-as-entries`.
 use mathlib.Core.Bool.{and-true, and-assoc}
 use mathlib.Core.Path.{refl, _∙_}
 use denote.Ref.{now}

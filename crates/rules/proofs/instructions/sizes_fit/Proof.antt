@@ -1,3 +1,4 @@
+-- By the instruction: counts are the model's lengths (`count-entries`, `count-writes`), and keys and width its table's (`table-keys`, `table-width`).
 use mathlib.Core.Bool.{and-true}
 use native.Mathlib.Omega.{arith}
 use denote.Ref.{now}

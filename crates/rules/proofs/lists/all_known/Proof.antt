@@ -1,3 +1,4 @@
+-- The first k entries are known (`below-more`); if the next is not, the whole is false (`entries-no`); at the end k is the count, and all are (`entries-yes`).
 use Prim.Native.Nat.{ℕ, _+_, _*_, _≤_, _<_, _-_}
 use mathlib.Core.Bool.{true}
 use mathlib.Core.Path.{_≡_, sym, ap, _∙_}

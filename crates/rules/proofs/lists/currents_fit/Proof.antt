@@ -1,3 +1,4 @@
+-- The first k values fit (`below-more`); if the next does not, the whole is false (`currents-no`); at the end k is the count, and all fit (`currents-yes`).
 use Prim.Native.Nat.{ℕ, _+_, _*_, _≤_, _<_, _-_}
 use mathlib.Core.Bool.{true}
 use mathlib.Core.Path.{_≡_, sym, ap, _∙_}
