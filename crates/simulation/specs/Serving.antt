@@ -2,7 +2,7 @@
 use Prim.Native.Nat.{ℕ, suc, _+_, _*_, _<_, _≤_}
 use mathlib.Core.Path.{_≡_, refl, sym, ap, _∙_, subst}
 use mathlib.Core.Logic.{_≢_}
-use mathlib.Core.Bool.{Bool, true, false, _&&_}
+use mathlib.Core.Bool.{Bool, true, false, _&&_, cond}
 use mathlib.Core.Option.{Option, none, some}
 use mathlib.Core.List.{List, []}
 use native.Mathlib.Omega.{arith}
@@ -136,8 +136,8 @@ module _ (w : List ℕ) (L : ℕ) (short : L ≤ 16384) (s₀ : State) (small : 
           is-y : getD r col 0 ≡ y
           is-y = some-inj (sym (at-here r col 0 (at-below r col e)) ∙ e)
 
-          word : takenWord w ask (keyIn i) i (isGoing (g .got .state)) (g .log) (g .index) (c .out) ≡ set (c .out) i y
-          word = subst (λ (u : Bool). takenWord w ask (keyIn i) i u (g .log) (g .index) (c .out) ≡ set (c .out) i y) (sym (ap goesOn (h .goes-on))) (ap (set (c .out) i) (ap (λ (q : List ℕ). getD q col 0) row ∙ is-y))
+          word : taken w ask (keyIn i) i (c .out) g .out ≡ set (c .out) i y
+          word = subst (λ (u : Bool). cond u (takenWord w ask (keyIn i) i (g .log) (g .index) (c .out)) (c .out) ≡ set (c .out) i y) (sym (ap goesOn (h .goes-on))) (ap (set (c .out) i) (ap (λ (q : List ℕ). getD q col 0) row ∙ is-y))
 
   serve-turn : (k j i : ℕ) (s : State) (c : Served) → i < n → s .status ≡ going → c .state .stop ≡ Going → Serving i s c → asked w m (rowAsk w id args column) i ≡ none
       → let d : Served = servedLane w m ask true i c in Follows s (turn k j i s) (d .state .stop) (Serving (suc i) (turn k j i s) d)
