@@ -10,7 +10,7 @@ use predict::Asking;
 use predict::Row;
 use predicted_index::Sought;
 ghost use mathlib.Core.Path.{_≡_};
-ghost use Prim.Native.Nat.{_≤_, _<_};
+ghost use Prim.Native.Nat.{_≤_};
 ghost use lib.ListN.{length};
 ghost use Rattle.instr.specs.Stands.{Short};
 ghost use Rattle.predicted_index.specs.Row.{Searchable};

@@ -1,10 +1,9 @@
 -- By the two tests, those of `servedLane`: if the first fails, all is as it was; if the second does, `out` is; if both hold, `take` ensures `out`.
 use mathlib.Core.Path.{ap}
 use native.Mathlib.Omega.{arith}
-use denote.Ref.{now}
 use Rattle.args.specs.declared.Args.{Args}
 use Rattle.bindings.specs.Columns.{fetched}
-use Rattle.predict.specs.Predict.{Gotten, taken, servedLane}
+use Rattle.predict.specs.Predict.{servedLane}
 use borrow.Author.Needs.{needs}
 use Rattle.predict.proofs.serve_lane.Statement.{statement}
 use Rattle.predict.proofs.serve_lane.Tie as tie
@@ -27,7 +26,6 @@ returns c =
     let get-or-insert-with = c .before .before .before .before .before .before .before .before .before .before .before .before .before .get-or-insert-with in
     let going2 = c .before .before .before .before .before .before .before .going2 in
     let if2 = c .before .before .before .before .before .before .if2 in
-    let a = c .before .before .before .before .before .before .before .before .before .before .before .before .before .before .before .before .before .before .before .before .before .before .before .before .before .before .before .before .before .args in
     let fetch = c .before .before .before .before .before .before .before .before .before .before .before .before .before .before .before .before .before .fetch in
     let e = get-or-insert-with .ensures in
     (rw (← going .ensures, if1 .taken, ← fetch .ensures, ← e .0, ← going2 .ensures, if2 .taken, c .before .before .take .ensures), e .1)
