@@ -60,25 +60,16 @@ pub fn fetch(words: &[u32], bindings: &[u32], lane: Lane, at: usize, count: usiz
     Args { vals, count }
 }
 
-// The word of a column in one of its lanes, or 0 past them.
-fn in_lane(column: &[u32], lanes: usize, lane: Lane) -> u32
-    ensures { λ r. ⌜ r ≡ getD (take lanes (now (column .entry))) (lane .0) 0 ⌝ }
-{
-    let i = lane.0;
-    if i < lanes { words::word(column, i) } else { 0 }
-}
-
 // The first `lanes` words of `column` become the column of dst, and zero the rest of it.
 fn bind(bindings: &mut [u32], dst: Variable, column: &[u32], lanes: usize)
     requires { ⌜ 256 * dst .0 + 256 ≤ length (now bindings) ⌝ }
     ensures { λ _. ⌜ now (bindings .exit) ≡ bound (dst .0) (take lanes (now (column .entry))) (now (bindings .entry)) ⌝ }
 {
     let at = 256 * words::size(dst.0);
-    let mut i: usize = 0;
-    while i < 256 {
-        bindings[at + i] = in_lane(column, lanes, Lane(i));
-        i += 1;
-    }
+    let front = words::part(words::part(column, 0, lanes), 0, 256);
+    let end = at + front.len();
+    words::copy(front, bindings, at);
+    words::clear(&mut bindings[end..at + 256]);
 }
 
 // A batch's own columns: v of them, each of `lanes` words, from word `at` on.

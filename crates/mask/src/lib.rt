@@ -36,10 +36,11 @@ impl Mask {
     pub fn new(lanes: usize) -> Self
         ensures { λ r. ⌜ r .live ≡ firstLanes lanes ⌝ }
     {
+        let n = if lanes < 256 { lanes } else { 256 };
         let mut live = [false; 256];
         let mut i = 0;
-        while i < 256 {
-            live[i] = i < lanes;
+        while i < n {
+            live[i] = true;
             i += 1;
         }
         Mask { live }
