@@ -105,26 +105,6 @@ count-padded l h =
     ∙ iter-agree (λ i. when (getD (padded l) i false) suc) (λ i. when (getD l i false) suc) 256 0 (λ i a _. rw has-padded)
     ∙ sym (iter-rest (λ i. when (getD l i false) suc) (length l) 256 0 (howMany (λ i. getD l i false) (length l)) refl h (λ i k. rw (List·getD-eq-default l false {n = i} k)))
 
-swap : (a b : Bool) (x : ℕ) → when a suc (when b suc x) ≡ when b suc (when a suc x)
-swap true true x = refl
-swap true false x = refl
-swap false true x = refl
-swap false false x = refl
-
-howMany-front : (p : ℕ → Bool) (n : ℕ) → howMany p (suc n) ≡ when (p 0) suc (howMany (λ i. p (suc i)) n)
-howMany-front p zero = refl
-howMany-front p (suc n) = ap (when (p (suc n)) suc) (howMany-front p n) ∙ swap (p (suc n)) (p 0) (howMany (λ i. p (suc i)) n)
-
--- empty: no lane is live
-pub count-none : (l : List Bool) → eqb (count l) 0 ≡ not (anyLive l)
-unfolding count
-count-none [] = refl
-count-none (b ∷ l) = rw (howMany-front (λ i. getD (b ∷ l) i false) (length l)) (by b (count-none l))
-  where
-    by : (b : Bool) → eqb (count l) 0 ≡ not (anyLive l) → eqb (when b suc (count l)) 0 ≡ not (b || anyLive l)
-    by true e = eqb·suc-zero (count l)
-    by false e = e
-
 pub any-padded : (l : List Bool) → anyLive (padded l) ≡ anyLive l
 unfolding padded
 any-padded l = more l (256 - length l)
@@ -168,6 +148,24 @@ end-live l i e = last-true (λ i. getD l i false) (length l) i e
 pub end-past : (l : List Bool) (i : ℕ) → end l ≤ i → getD l i false ≡ false
 unfolding end
 end-past l i h = either (λ k. none-past (λ i. getD l i false) (length l) i k h) (λ k. List·getD-eq-default l false {n = i} k) (lt-or-le i (length l))
+
+any-at : (l : List Bool) (i : ℕ) → getD l i false ≡ true → anyLive l ≡ true
+any-at [] i e = e
+any-at (b ∷ l) zero e = rw e
+any-at (true ∷ l) (suc i) e = refl
+any-at (false ∷ l) (suc i) e = any-at l i e
+
+any-none : (l : List Bool) → ((i : ℕ) → getD l i false ≡ false) → anyLive l ≡ false
+any-none [] h = refl
+any-none (b ∷ l) h = rw (h 0) (any-none l (λ i. h (suc i)))
+
+-- it is 0 where no lane is live
+pub end-none : (l : List Bool) → eqb (end l) 0 ≡ not (anyLive l)
+end-none l = by (end l) refl
+  where
+    by : (e : ℕ) → end l ≡ e → eqb e 0 ≡ not (anyLive l)
+    by zero q = rw (any-none l (λ i. end-past l i (omega arith)))
+    by (suc i) q = rw (any-at l i (end-live l i q)) (eqb·suc-zero i)
 
 -- told by the last live lane, or by lane 0, which is not live where none is
 pub end-by : (l : List Bool) (i : ℕ) → i ≡ end l - 1 → cond (getD l i false) (i + 1) 0 ≡ end l

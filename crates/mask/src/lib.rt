@@ -115,6 +115,6 @@ impl Mask {
     pub fn is_empty(self) -> bool
         ensures { λ r. ⌜ r ≡ not (anyLive (self .live)) ⌝ }
     {
-        self.count() == 0
+        self.end() == 0
     }
 }
