@@ -7,19 +7,9 @@ ghost use mathlib.Core.Path.{_≡_};
 ghost use mathlib.Core.Option.{some};
 ghost use Prim.Native.Nat.{_+_, _*_, _^_, _≤_, _<_};
 ghost use lib.ListN.{length, getD, take};
+ghost use Rattle.words.specs.Filled.{filled};
 ghost use Rattle.bindings.specs.Bindings.{boundIn};
 ghost use Rattle.bindings.specs.Columns.{valueAt, fetched, bound, loaded};
-
-// The word behind p, or 0 past the end.
-fn behind(words: &[u32], p: usize) -> u32
-    ensures { λ r. ⌜ r ≡ getD (now (words .entry)) (p + 1) 0 ⌝ }
-{
-    if p < words.len() {
-        words::word(words, p + 1)
-    } else {
-        0
-    }
-}
 
 // The word of a variable in a lane, or 0 past the end.
 pub fn variable(bindings: &[u32], v: Variable, lane: Lane) -> u32
@@ -34,29 +24,52 @@ pub fn variable(bindings: &[u32], v: Variable, lane: Lane) -> u32
     }
 }
 
-// What the entry whose tag stands at word p stands for in a lane: a variable, or the number itself.
-pub fn value(words: &[u32], bindings: &[u32], lane: Lane, p: usize) -> u32
+// What the entry whose tag stands at word p stands for in a lane: a variable, or the number itself. One test tells that both words are there.
+fn value(words: &[u32], bindings: &[u32], lane: Lane, p: usize) -> u32
+    requires { ⌜ p + 1 < 2 ^ 64 ⌝ }
     ensures { λ r. ⌜ r ≡ valueAt (now (words .entry)) (now (bindings .entry)) (lane .0) p ⌝ }
 {
-    let tag = words::word(words, p);
-    let number = behind(words, p);
-    if tag == 0 {
-        return variable(bindings, Variable(number), lane);
+    if p + 1 < words.len() {
+        let tag = words[p];
+        let number = words[p + 1];
+        if tag == 0 {
+            return variable(bindings, Variable(number), lane);
+        }
+        return number;
     }
-    number
+    if words::word(words, p) == 0 {
+        return variable(bindings, Variable(0), lane);
+    }
+    0
 }
 
-// What `count` entries stand for in a lane; the first one's tag stands at word `at`.
+// What `count` entries stand for in a lane, in place of the first `count` words of `out`; the first entry's tag stands at word `at`.
+pub fn fetch_into(
+    words: &[u32],
+    bindings: &[u32],
+    lane: Lane,
+    at: usize,
+    count: usize,
+    out: &mut [u32],
+)
+    requires { ⌜ (count ≤ length (now out)) × (at < 2 ^ 32) ⌝ }
+    ensures { λ _. ⌜ now (out .exit) ≡ filled (λ k. valueAt (now (words .entry)) (now (bindings .entry)) (lane .0) (at + 2 * k))
+        count (now (out .entry)) ⌝ }
+{
+    let mut i = 0;
+    while i < count {
+        out[i] = value(words, bindings, lane, at + 2 * i);
+        i += 1;
+    }
+}
+
+// The same in a short list of its own.
 pub fn fetch(words: &[u32], bindings: &[u32], lane: Lane, at: usize, count: usize) -> Args
     requires { ⌜ (count ≤ 16) × (at < 2 ^ 32) ⌝ }
     ensures { λ r. ⌜ r ≡ fetched (now (words .entry)) (now (bindings .entry)) (lane .0) at count ⌝ }
 {
     let mut vals = [0u32; 16];
-    let mut i = 0;
-    while i < count {
-        vals[i] = value(words, bindings, lane, at + 2 * i);
-        i += 1;
-    }
+    fetch_into(words, bindings, lane, at, count, &mut vals);
     Args { vals, count }
 }
 
