@@ -1,3 +1,4 @@
+-- After i turns the first i marks tell whether a lane is below `lanes` (`filled-turn`); the marks past the last turn are false already (`filled-rest`).
 use Prim.Native.Nat.{ℕ, _-_, _≤_, min}
 use mathlib.Core.Path.{_≡_, sym, _∙_}
 use mathlib.Core.Bool.{false}
