@@ -1,6 +1,6 @@
 -- Laws of the model's functions: how many arguments each takes, that it answers on no other number of them, and what stands past the last number.
-use Prim.Native.Nat.{ℕ, zero, suc, _<_, _≤_}
-use mathlib.Core.Path.{_≡_, refl, sym}
+use Prim.Native.Nat.{ℕ, _-_, _<_, _≤_}
+use mathlib.Core.Path.{_≡_, refl, ap, _∙_}
 use mathlib.Core.Logic.{_≢_}
 use mathlib.Core.Bool.{Bool, true, false}
 use mathlib.Core.Option.{Option, none, some}
@@ -8,7 +8,7 @@ use mathlib.Core.List.{List, [], _∷_}
 use native.Mathlib.Omega.{arith}
 use lib.Dec.{eqb, eqb→eq}
 use borrow.Author.Tests.{eqb-true, eqb-false, eq-eqb, ne-eqb}
-use lib.ListN.{length, getD, set, take, List·getD-eq-default}
+use lib.ListN.{length, getD, set, List·getD-eq-default}
 use lib.Seq.{getD-set-other}
 use Rattle.model.specs.Basics.{only}
 use Rattle.model.specs.Laws.Logic.{All-getD, only-some}
@@ -34,23 +34,25 @@ only-band f a w e = by (eqb f 6) refl
 
 -- ## What the code comes to
 
-on-taken : (g : Function) (n : ℕ) (l : List ℕ) → 2 < length l → answers g (take n l) ≡ only (eqb n (takes g)) (onFirst g l)
-on-taken g n [] h = absurd (omega arith)
-on-taken g n (a ∷ []) h = absurd (omega arith)
-on-taken g n (a ∷ b ∷ []) h = absurd (omega arith)
-on-taken (ofOne g) zero (a ∷ b ∷ c ∷ l) h = refl
-on-taken (ofOne g) (suc zero) (a ∷ b ∷ c ∷ l) h = refl
-on-taken (ofOne g) (suc (suc n)) (a ∷ b ∷ c ∷ l) h = rw (ne-eqb (suc (suc (length (take n (c ∷ l))))) 1 (λ e. omega arith), ne-eqb (suc (suc n)) 1 (λ e. omega arith))
-on-taken (ofTwo g) zero (a ∷ b ∷ c ∷ l) h = refl
-on-taken (ofTwo g) (suc zero) (a ∷ b ∷ c ∷ l) h = refl
-on-taken (ofTwo g) (suc (suc zero)) (a ∷ b ∷ c ∷ l) h = refl
-on-taken (ofTwo g) (suc (suc (suc n))) (a ∷ b ∷ c ∷ l) h = rw (ne-eqb (suc (suc (suc (length (take n l))))) 2 (λ e. omega arith), ne-eqb (suc (suc (suc n))) 2 (λ e. omega arith))
+pub some-argument : (f : ℕ) → 0 < arity f
+some-argument f = by (functionOf f)
+  where
+    by : (g : Function) → 0 < takes g
+    by (ofOne g) = omega arith
+    by (ofTwo g) = omega arith
 
-pub answered : (f k n : ℕ) (l : List ℕ) (o : Option ℕ) → 2 < length l → f ≡ k → n ≡ arity f → o ≡ onFirst (functionOf k) l → o ≡ apply f (take n l)
-answered f k n l o h e m p = rw (m, e, on-taken (functionOf k) (arity k) l h, eq-eqb (arity k) (arity k) refl) p
+-- function k, on as many arguments as it takes
+pub answered : (f k : ℕ) (l : List ℕ) (o : Option ℕ) → f ≡ k → length l ≡ arity f → o ≡ onFirst (functionOf k) l → o ≡ apply f l
+answered f k l o e m p = rw (m, e, eq-eqb (arity k) (arity k) refl) p
 
-pub other-counts : (f n : ℕ) (l : List ℕ) → 2 < length l → n ≢ arity f → apply f (take n l) ≡ none
-other-counts f n l h m = rw (on-taken (functionOf f) n l h, ne-eqb n (arity f) m)
+-- y is the last of them
+pub answered-by-two : (f k : ℕ) (g : ℕ → ℕ → Option ℕ) (l : List ℕ) (o : Option ℕ) → f ≡ k → length l ≡ arity f → functionOf k ≡ ofTwo g → o ≡ g (getD l 0 0) (getD l (length l - 1) 0) → o ≡ apply f l
+answered-by-two f k g l o e m t p =
+    let two : length l - 1 ≡ 1 = ap (λ (n : ℕ). n - 1) (m ∙ ap arity e ∙ ap takes t) in
+    answered f k l o e m (rw (t, ← two) p)
+
+pub other-counts : (f : ℕ) (l : List ℕ) → length l ≢ arity f → apply f l ≡ none
+other-counts f l m = rw (ne-eqb (length l) (arity f) m)
 
 only-none : (b : Bool) → only {A = ℕ} b none ≡ none
 only-none true = refl

@@ -1,10 +1,8 @@
 // The functions 0 to 7, by number: they stand in for `ExternalFunction`.
-use args::Args;
 use ids::ExternalFunctionId;
 ghost use mathlib.Core.Path.{_≡_};
 ghost use mathlib.Core.List.{[], _∷_};
 ghost use Rattle.model.specs.Machine.Functions as model;
-ghost use Rattle.args.specs.Args.{asList};
 ghost use Rattle.functions.specs.Answers.{answerOf};
 
 // A word, or nothing.
@@ -115,14 +113,16 @@ fn distance(x: u32, y: u32) -> Answer
 }
 
 // What a function answers on these arguments: nothing where there is no such function, or it takes more or fewer.
-pub fn invoke(func: ExternalFunctionId, args: Args) -> Answer
-    ensures { λ r. ⌜ answerOf r ≡ model.apply (func .0) (asList args) ⌝ }
+pub fn invoke(func: ExternalFunctionId, args: &[u32]) -> Answer
+    ensures { λ r. ⌜ answerOf r ≡ model.apply (func .0) (now (args .entry)) ⌝ }
 {
-    if args.count != arity(func) {
+    let n = args.len();
+    if n != arity(func) {
         return Answer::Nothing;
     }
-    let x = args.vals[0];
-    let y = args.vals[1];
+    let x = args[0];
+    // the last argument: of one it is x again, which has no use for it
+    let y = args[n - 1];
     let f = func.0;
     match f {
         0 => sum(x, y),

@@ -1,22 +1,33 @@
 -- What the code of the passes leans on.
-use Prim.Native.Nat.{ℕ, zero, suc, _+_, _-_, _≤_, _<_, min}
+use Prim.Native.Nat.{ℕ, zero, suc, _+_, _-_, _*_, _≤_, _<_, min}
 use mathlib.Core.Path.{_≡_, refl, sym, _∙_}
 use mathlib.Core.Bool.{true, false}
 use mathlib.Core.Option.{some}
 use mathlib.Core.List.{List, [], _∷_}
 use native.Mathlib.Omega.{arith}
-use lib.ListN.{length, getD, take, drop, length-drop, length-take}
 use native.Mathlib.Numerals.{add-one}
-use lib.Seq.{getD-take, getD-drop, length-take-le}
+use lib.ListN.{length, getD, take, drop, replicate, length-drop, length-take}
+use lib.Seq.{getD-take, getD-drop}
 use borrow.Author.Tests.{eq-eqb, ne-eqb}
+use Rattle.model.specs.Basics.{tab}
+use Rattle.model.specs.Laws.Lists.{length-tab}
 use Rattle.model.specs.Machine.Steps.{anyNe}
-use Rattle.words.specs.Filled.{filled, getD-filled}
-use Rattle.bindings.specs.Columns.{wordOf}
+use Rattle.words.specs.Filled.{filled, front-again}
+use Rattle.args.specs.Args.{asList}
+use Rattle.bindings.specs.Columns.{wordOf, valueAt, fetched}
 use Rattle.instr.specs.declared.QueryEntry.{QueryEntry}
 use Rattle.instr.specs.declared.QueryEntry.the-variants as entry
+use Rattle.instr.specs.declared.Entries.{Entries}
 use Rattle.instr.specs.Meaning.{entryOf}
 use Rattle.lanes.specs.declared.Ask.{Ask}
-use Rattle.lanes.specs.Lanes.{asked, entryAsk, AskFits}
+use Rattle.lanes.specs.Lanes.{listed, asked, entryAsk, AskFits}
+
+-- the front of an array that a list of entries was fetched into, whatever stands behind
+pub listed-words : (w m : List ℕ) (i : ℕ) (l : Entries) (was vals : List ℕ) → vals ≡ filled (λ k. valueAt w m i (l .at + 2 * k)) (l .count) was → take (l .count) vals ≡ asList (listed w m i l)
+unfolding fetched
+listed-words w m i l was vals e =
+    let f : ℕ → ℕ = λ (k : ℕ). valueAt w m i (l .at + 2 * k) in
+    rw e (front-again (l .count) (tab f (l .count)) was (length-tab f (l .count)) ∙ sym (front-again (l .count) (tab f (l .count)) (replicate 16 0) (length-tab f (l .count))))
 
 -- ## An entry that is asked for
 
@@ -63,49 +74,31 @@ pairs-end (x ∷ xs) [] (suc k) h = sym (no-right (drop k xs))
 pairs-end (x ∷ xs) (y ∷ ys) zero h = absurd (omega arith)
 pairs-end (x ∷ xs) (y ∷ ys) (suc k) h = pairs-end xs ys k (omega arith)
 
--- ## An array filled lane by lane
+-- ## The two sides of a list
 
--- the word of a lane that has none yet is the one from before
-pub word-before : (f : ℕ → ℕ) (i : ℕ) (l cur : List ℕ) → cur ≡ filled f i l → getD cur i 0 ≡ getD l i 0
-word-before f i l cur e = rw e (getD-filled f i l 0)
-
--- ## The two sides of the first c words of an array
-
-module _ (v : List ℕ) (d c : ℕ) (h : c ≤ length v) where
-  abbrev left : List ℕ
-  left = take d (take c v)
-
-  abbrev right : List ℕ
-  right = drop d (take c v)
+module _ (v : List ℕ) (d : ℕ) where
+  abbrev count : ℕ
+  count = length v
 
   abbrev pairs : ℕ
-  pairs = min (min d c) (c - min d c)
+  pairs = min (min d count) (count - min d count)
 
-  length-all : length (take c v) ≡ c
-  length-all = length-take-le c v h
+  sides-count : min (length (take d v)) (length (drop d v)) ≡ pairs
+  sides-count = omega (arith, length-take d v, length-drop d v)
 
-  length-left : length left ≡ min d c
-  length-left = length-take d (take c v) ∙ rw length-all
+  left-word : (k : ℕ) → k < pairs → getD (take d v) k 0 ≡ getD v k 0
+  left-word k l = getD-take d v k 0 (omega arith)
 
-  length-right : length right ≡ c - d
-  length-right = length-drop d (take c v) ∙ rw length-all
-
-  pub sides-count : min (length left) (length right) ≡ pairs
-  sides-count = omega (arith, length-left, length-right)
-
-  pub left-word : (k : ℕ) → k < pairs → getD left k 0 ≡ getD v k 0
-  left-word k l = getD-take d (take c v) k 0 (omega arith) ∙ getD-take c v k 0 (omega arith)
-
-  pub right-word : (k : ℕ) → k < pairs → getD right k 0 ≡ getD v (min d c + k) 0
+  right-word : (k : ℕ) → k < pairs → getD (drop d v) k 0 ≡ getD v (min d count + k) 0
   right-word k l =
-      let e : min d c ≡ d = omega arith in
-      rw e (getD-drop d (take c v) k 0 ∙ getD-take c v (d + k) 0 (omega arith))
+      let e : min d count ≡ d = omega arith in
+      rw e (getD-drop d v k 0)
 
-  pub pair-differs : (k : ℕ) → k < pairs → (getD v k 0 ≡ getD v (min d c + k) 0 → ⊥) → true ≡ anyNe (drop k left) (drop k right)
-  pair-differs k l n = pairs-differ left right k (omega (arith, sides-count)) (omega (arith, sides-count)) (λ e. n (sym (left-word k l) ∙ e ∙ right-word k l))
+  pub pair-differs : (k : ℕ) → k < pairs → (getD v k 0 ≡ getD v (min d count + k) 0 → ⊥) → true ≡ anyNe (drop k (take d v)) (drop k (drop d v))
+  pair-differs k l n = pairs-differ (take d v) (drop d v) k (omega (arith, sides-count)) (omega (arith, sides-count)) (λ e. n (sym (left-word k l) ∙ e ∙ right-word k l))
 
-  pub pair-agrees : (k : ℕ) → k < pairs → getD v k 0 ≡ getD v (min d c + k) 0 → anyNe (drop k left) (drop k right) ≡ anyNe (drop (k + 1) left) (drop (k + 1) right)
-  pair-agrees k l e = rw add-one (pairs-agree left right k (omega (arith, sides-count)) (omega (arith, sides-count)) (left-word k l ∙ e ∙ sym (right-word k l)))
+  pub pair-agrees : (k : ℕ) → k < pairs → getD v k 0 ≡ getD v (min d count + k) 0 → anyNe (drop k (take d v)) (drop k (drop d v)) ≡ anyNe (drop (k + 1) (take d v)) (drop (k + 1) (drop d v))
+  pair-agrees k l e = rw add-one (pairs-agree (take d v) (drop d v) k (omega (arith, sides-count)) (omega (arith, sides-count)) (left-word k l ∙ e ∙ sym (right-word k l)))
 
-  pub no-more-pairs : (k : ℕ) → pairs ≤ k → false ≡ anyNe (drop k left) (drop k right)
-  no-more-pairs k l = pairs-end left right k (omega (arith, sides-count))
+  pub no-more-pairs : (k : ℕ) → pairs ≤ k → false ≡ anyNe (drop k (take d v)) (drop k (drop d v))
+  no-more-pairs k l = pairs-end (take d v) (drop d v) k (omega (arith, sides-count))

@@ -1,5 +1,6 @@
 -- What each lane is answered, and whether it passes a test: w is the book's words, m the memory of the bindings.
 use Prim.Native.Nat.{ℕ, _+_, _*_}
+use mathlib.Core.Path.{_≡_}
 use mathlib.Core.Bool.{Bool, true, false, _&&_, not}
 use mathlib.Core.Option.{Option, some}
 use mathlib.Core.List.{List, []}
@@ -40,6 +41,11 @@ module _ (w m : List ℕ) where
   holds (Ne l r) i = not (eqb (wordOf m i (entryOf l)) (wordOf m i (entryOf r)))
   holds (AnyNe ops divider) i = anyNe (take divider (asList (listed i ops))) (drop divider (asList (listed i ops)))
 
+-- whether two entries are equal in lane i; whether they differ, where `equal` is false
+abbrev pub agreed : (m : List ℕ) (l r : QueryEntry) (equal : Bool) → ℕ → Bool
+agreed m l r true i = eqb (wordOf m i (entryOf l)) (wordOf m i (entryOf r))
+agreed m l r false i = not (eqb (wordOf m i (entryOf l)) (wordOf m i (entryOf r)))
+
 -- what an entry stands for is asked for
 unfoldable pub entryAsk : QueryEntry → Ask
 entryAsk (entry.Var v) = Var v
@@ -71,6 +77,10 @@ answeredLanes ask live = tab (λ i. isSome (only (getD live i false) (ask i))) 2
 
 unfoldable pub answeredWords : (ℕ → Option ℕ) → List Bool → List ℕ → List ℕ
 answeredWords ask live out = tab (λ i. orElse (only (getD live i false) (ask i)) (getD out i 0)) 256
+
+-- what a pass over the lanes leaves: those that are answered, and the array with their words
+abbrev pub Fills : (ℕ → Option ℕ) → List Bool → List ℕ → List Bool → List ℕ → Type 0
+Fills ask live out marks words = (marks ≡ answeredLanes ask live) × (words ≡ answeredWords ask live out)
 
 -- the lanes of a mask that pass
 unfoldable pub kept : (ℕ → Bool) → List Bool → List Bool

@@ -10,17 +10,20 @@ use instr::QueryEntry;
 use mask::Mask;
 use predicted_index::Sought;
 ghost use mathlib.Core.Path.{_≡_};
-ghost use mathlib.Core.Bool.{false, _&&_, not};
+ghost use mathlib.Core.Bool.{_&&_};
+ghost use mathlib.Core.Option.{some};
 ghost use Prim.Native.Nat.{_+_, _*_, _≤_, _<_, min};
-ghost use lib.ListN.{length, getD, getElem?, take, drop};
+ghost use lib.ListN.{length, getD, getElem?, set, take, drop};
 ghost use Rattle.model.specs.Basics.{only};
 ghost use Rattle.model.specs.Machine.Steps.{anyNe};
-ghost use Rattle.args.specs.Args.{asList};
 ghost use Rattle.functions.specs.Answers.{answerOf};
 ghost use Rattle.bindings.specs.Columns.{wordOf};
 ghost use Rattle.instr.specs.Meaning.{entryOf};
 ghost use Rattle.instr.specs.Stands.{Short};
-ghost use Rattle.lanes.specs.Lanes.{listed, entryAsk, asked, AskFits, holds, TestFits, isSome, orElse, answeredLanes, answeredWords, kept};
+ghost use Rattle.predicted_index.specs.Row.{Searchable};
+ghost use Rattle.lanes.specs.declared.Ask.the-variants.{Lookup, External};
+ghost use Rattle.lanes.specs.declared.Test.the-variants.{AnyNe};
+ghost use Rattle.lanes.specs.Lanes.{listed, entryAsk, asked, AskFits, holds, agreed, TestFits, isSome, orElse, answeredLanes, answeredWords, Fills, kept};
 
 // What a lane asks for: a column of the committed row with a key, what a function answers, a variable's word, or a constant.
 pub enum Ask {
@@ -83,59 +86,145 @@ fn column(row: &[u32], col: ColumnId) -> Answer
     Answer::Nothing
 }
 
-// What a lane is answered.
-fn answer(words: &[u32], chains: &[u32], bindings: &[u32], ask: Ask, lane: Lane) -> Answer
-    requires { ⌜ AskFits (now words) (now chains) ask ⌝ }
-    ensures { λ r. ⌜ answerOf r ≡ asked (now (words .entry)) (now (bindings .entry)) ask (lane .0) ⌝ }
-{
-    match ask {
-        Ask::Lookup { of, key, col } => {
-            let args = fetch(words, bindings, key, lane);
-            let vals = args.vals;
-            // the log is not looked at
-            let row = predicted_index::row_of(words, &words[..0], chains, &words[..0], of, &vals);
-            column(row, col)
-        }
-        Ask::External { func, args } => functions::invoke(func, fetch(words, bindings, args, lane)),
-        Ask::Var(v) => Answer::Word(bindings::variable(bindings, v, lane)),
-        Ask::Const(x) => Answer::Word(x),
-    }
-}
-
-// What a lane is answered; a lane that is not live is not asked.
-fn answer_live(
+// What a table answers in a lane: a column of the committed row with the key. A lane that is not live is not asked.
+fn look_up(
     words: &[u32],
     chains: &[u32],
     bindings: &[u32],
-    ask: Ask,
+    of: Sought,
+    key: Entries,
+    col: ColumnId,
     live: bool,
     lane: Lane,
 ) -> Answer
-    requires { ⌜ AskFits (now words) (now chains) ask ⌝ }
-    ensures { λ r. ⌜ answerOf r ≡ only live (asked (now (words .entry)) (now (bindings .entry)) ask (lane .0)) ⌝ }
+    requires { ⌜ Searchable (now words) (now chains) of × Short key ⌝ }
+    ensures { λ r. ⌜ answerOf r ≡ only live (asked (now (words .entry)) (now (bindings .entry)) (Lookup of key col) (lane .0)) ⌝ }
 {
     if live {
-        return answer(words, chains, bindings, ask, lane);
+        let mut vals = [0u32; 16];
+        bindings::fetch_into(words, bindings, lane, key.at, key.count, &mut vals);
+        // the log is not looked at
+        let row = predicted_index::row_of(words, &words[..0], chains, &words[..0], of, &vals);
+        return column(row, col);
     }
     Answer::Nothing
 }
 
-fn is_word(a: Answer) -> bool
-    ensures { λ r. ⌜ r ≡ isSome (answerOf a) ⌝ }
+// What a function answers in a lane, likewise; `vals` is lent for its arguments.
+fn invoke(
+    words: &[u32],
+    bindings: &[u32],
+    func: ExternalFunctionId,
+    args: Entries,
+    live: bool,
+    lane: Lane,
+    vals: &mut [u32],
+) -> Answer
+    requires { ⌜ Short args × (length (now vals) ≡ 16) ⌝ }
+    ensures { λ r. ⌜ answerOf r ≡ only live (asked (now (words .entry)) (now (bindings .entry)) (External func args) (lane .0)) ⌝ }
 {
-    match a {
-        Answer::Word(_) => true,
+    if live {
+        let count = args.count;
+        bindings::fetch_into(words, bindings, lane, args.at, count, vals);
+        return functions::invoke(func, &vals[..count]);
+    }
+    Answer::Nothing
+}
+
+// The word of a lane that is answered goes to `out`; whether it is.
+fn put(given: Answer, lane: Lane, out: &mut [u32]) -> bool
+    requires { ⌜ lane .0 < length (now out) ⌝ }
+    ensures mark { λ r. ⌜ r ≡ isSome (answerOf given) ⌝ }
+    ensures word { λ r. ⌜ now (out .exit) ≡ set (now (out .entry)) (lane .0)
+        (orElse (answerOf given) (getD (now (out .entry)) (lane .0) 0)) ⌝ }
+{
+    match given {
+        Answer::Word(x) => {
+            let i = lane.0;
+            out[i] = x;
+            true
+        }
         Answer::Nothing => false,
     }
 }
 
-fn word_or(a: Answer, other: u32) -> u32
-    ensures { λ r. ⌜ r ≡ orElse (answerOf a) other ⌝ }
+// The passes of `fill`, one for each kind of question: inside them nothing is told apart but the lanes.
+fn lookup_row_vectorized(
+    words: &[u32],
+    chains: &[u32],
+    bindings: &[u32],
+    of: Sought,
+    key: Entries,
+    col: ColumnId,
+    mut mask: Mask,
+    out: &mut [u32],
+) -> Mask
+    requires { ⌜ Searchable (now words) (now chains) of × Short key × (length (now out) ≡ 256) ⌝ }
+    ensures { λ r. ⌜ Fills (asked (now (words .entry)) (now (bindings .entry)) (Lookup of key col)) (mask .live)
+        (now (out .entry)) (r .live) (now (out .exit)) ⌝ }
 {
-    match a {
-        Answer::Word(x) => x,
-        Answer::Nothing => other,
+    let n = mask.end();
+    let mut i = 0;
+    while i < n {
+        let given = look_up(words, chains, bindings, of, key, col, mask.live[i], Lane(i));
+        mask.live[i] = put(given, Lane(i), out);
+        i += 1;
     }
+    mask
+}
+
+// The Rust's `invoke_batch_assign` too: words that are in `out` already stay where a lane is not answered.
+fn invoke_batch(
+    words: &[u32],
+    bindings: &[u32],
+    func: ExternalFunctionId,
+    args: Entries,
+    mut mask: Mask,
+    out: &mut [u32],
+) -> Mask
+    requires { ⌜ Short args × (length (now out) ≡ 256) ⌝ }
+    ensures { λ r. ⌜ Fills (asked (now (words .entry)) (now (bindings .entry)) (External func args)) (mask .live)
+        (now (out .entry)) (r .live) (now (out .exit)) ⌝ }
+{
+    let n = mask.end();
+    let mut vals = [0u32; 16];
+    let mut i = 0;
+    while i < n {
+        let given = invoke(
+            words,
+            bindings,
+            func,
+            args,
+            mask.live[i],
+            Lane(i),
+            &mut vals,
+        );
+        mask.live[i] = put(given, Lane(i), out);
+        i += 1;
+    }
+    mask
+}
+
+// x in a live lane, else the word that is there.
+fn chosen(live: bool, x: u32, other: u32) -> u32
+    ensures { λ r. ⌜ r ≡ orElse (only live (some x)) other ⌝ }
+{
+    if live { x } else { other }
+}
+
+// An entry answers every lane, so that the mask stays.
+fn fill_entry(bindings: &[u32], e: QueryEntry, mask: Mask, out: &mut [u32]) -> Mask
+    requires { ⌜ length (now out) ≡ 256 ⌝ }
+    ensures { λ r. ⌜ Fills (λ i. some (wordOf (now (bindings .entry)) i (entryOf e))) (mask .live)
+        (now (out .entry)) (r .live) (now (out .exit)) ⌝ }
+{
+    let n = mask.end();
+    let mut i = 0;
+    while i < n {
+        out[i] = chosen(mask.live[i], value(bindings, e, Lane(i)), out[i]);
+        i += 1;
+    }
+    mask
 }
 
 // Each lane of the mask that is answered has its word in `out`; the lanes that were.
@@ -152,16 +241,21 @@ pub fn fill(
     ensures words { λ r. ⌜ now (out .exit) ≡ answeredWords (asked (now (words .entry)) (now (bindings .entry)) ask) (mask .live)
         (now (out .entry)) ⌝ }
 {
-    let mut found = Mask::new(0);
-    let n = mask.end();
-    let mut i = 0;
-    while i < n {
-        let given = answer_live(words, chains, bindings, ask, mask.live[i], Lane(i));
-        out[i] = word_or(given, out[i]);
-        found.live[i] = is_word(given);
-        i += 1;
+    match ask {
+        Ask::Lookup { of, key, col } => lookup_row_vectorized(
+            words,
+            chains,
+            bindings,
+            of,
+            key,
+            col,
+            mask,
+            out,
+        ),
+        Ask::External { func, args } => invoke_batch(words, bindings, func, args, mask, out),
+        Ask::Var(v) => fill_entry(bindings, QueryEntry::Var(v), mask, out),
+        Ask::Const(x) => fill_entry(bindings, QueryEntry::Const(x), mask, out),
     }
-    found
 }
 
 fn least(a: usize, b: usize) -> usize
@@ -171,16 +265,15 @@ fn least(a: usize, b: usize) -> usize
 }
 
 // Whether some pair of the two sides, before the divider and from it on, differs; up to the shorter side.
-fn any_ne(ops: Args, divider: usize) -> bool
-    requires { ⌜ ops .count ≤ 16 ⌝ }
-    ensures { λ r. ⌜ r ≡ anyNe (take divider (asList ops)) (drop divider (asList ops)) ⌝ }
+fn any_ne(ops: &[u32], divider: usize) -> bool
+    ensures { λ r. ⌜ r ≡ anyNe (take divider (now (ops .entry))) (drop divider (now (ops .entry))) ⌝ }
 {
-    let count = ops.count;
+    let count = ops.len();
     let left = least(divider, count);
     let pairs = least(left, count - left);
     let mut k = 0;
     while k < pairs {
-        if ops.vals[k] != ops.vals[left + k] {
+        if ops[k] != ops[left + k] {
             return true;
         }
         k += 1;
@@ -188,27 +281,65 @@ fn any_ne(ops: Args, divider: usize) -> bool
     false
 }
 
-// Whether a lane passes.
-fn passes(words: &[u32], bindings: &[u32], test: Test, lane: Lane) -> bool
-    requires { ⌜ TestFits test ⌝ }
-    ensures { λ r. ⌜ r ≡ holds (now (words .entry)) (now (bindings .entry)) test (lane .0) ⌝ }
+// Whether two entries are equal in a lane; whether they differ, where `equal` is false.
+fn agree(bindings: &[u32], l: QueryEntry, r: QueryEntry, equal: bool, lane: Lane) -> bool
+    ensures { λ t. ⌜ t ≡ agreed (now (bindings .entry)) l r equal (lane .0) ⌝ }
 {
-    match test {
-        Test::Eq(l, r) => value(bindings, l, lane) == value(bindings, r, lane),
-        Test::Ne(l, r) => value(bindings, l, lane) != value(bindings, r, lane),
-        Test::AnyNe { ops, divider } => any_ne(fetch(words, bindings, ops, lane), divider),
-    }
+    let same = value(bindings, l, lane) == value(bindings, r, lane);
+    if equal { same } else { !same }
 }
 
-// Whether a lane is live and does not pass.
-fn fails(words: &[u32], bindings: &[u32], test: Test, live: bool, lane: Lane) -> bool
-    requires { ⌜ TestFits test ⌝ }
-    ensures { λ r. ⌜ r ≡ (live && not (holds (now (words .entry)) (now (bindings .entry)) test (lane .0))) ⌝ }
+// Whether a lane is live and some pair of its words differs.
+fn differ(
+    words: &[u32],
+    bindings: &[u32],
+    ops: Entries,
+    divider: usize,
+    live: bool,
+    lane: Lane,
+) -> bool
+    requires { ⌜ Short ops ⌝ }
+    ensures { λ r. ⌜ r ≡ (live && holds (now (words .entry)) (now (bindings .entry)) (AnyNe ops divider) (lane .0)) ⌝ }
 {
     if live {
-        return !passes(words, bindings, test, lane);
+        let count = ops.count;
+        let mut vals = [0u32; 16];
+        bindings::fetch_into(words, bindings, lane, ops.at, count, &mut vals);
+        return any_ne(&vals[..count], divider);
     }
     false
+}
+
+// The passes of `retain`.
+fn assert_impl(bindings: &[u32], l: QueryEntry, r: QueryEntry, equal: bool, mut mask: Mask) -> Mask
+    ensures { λ t. ⌜ t .live ≡ kept (agreed (now (bindings .entry)) l r equal) (mask .live) ⌝ }
+{
+    let n = mask.end();
+    let mut i = 0;
+    while i < n {
+        mask.live[i] = mask.live[i] & agree(bindings, l, r, equal, Lane(i));
+        i += 1;
+    }
+    mask
+}
+
+fn retain_any_ne(
+    words: &[u32],
+    bindings: &[u32],
+    ops: Entries,
+    divider: usize,
+    mut mask: Mask,
+) -> Mask
+    requires { ⌜ Short ops ⌝ }
+    ensures { λ r. ⌜ r .live ≡ kept (holds (now (words .entry)) (now (bindings .entry)) (AnyNe ops divider)) (mask .live) ⌝ }
+{
+    let n = mask.end();
+    let mut i = 0;
+    while i < n {
+        mask.live[i] = differ(words, bindings, ops, divider, mask.live[i], Lane(i));
+        i += 1;
+    }
+    mask
 }
 
 // The lanes of the mask that pass; the others are dropped.
@@ -216,14 +347,9 @@ pub fn retain(words: &[u32], bindings: &[u32], test: Test, mask: Mask) -> Mask
     requires { ⌜ TestFits test ⌝ }
     ensures { λ r. ⌜ r .live ≡ kept (holds (now (words .entry)) (now (bindings .entry)) test) (mask .live) ⌝ }
 {
-    let n = mask.end();
-    let mut left = mask;
-    let mut i = 0;
-    while i < n {
-        if fails(words, bindings, test, mask.live[i], Lane(i)) {
-            left = left.drop(Lane(i));
-        }
-        i += 1;
+    match test {
+        Test::Eq(l, r) => assert_impl(bindings, l, r, true, mask),
+        Test::Ne(l, r) => assert_impl(bindings, l, r, false, mask),
+        Test::AnyNe { ops, divider } => retain_any_ne(words, bindings, ops, divider, mask),
     }
-    left
 }
