@@ -18,7 +18,7 @@ pub enum Assembled {
     Over,
 }
 
-// The answer's bodies, how many words those of the steps have at the front, and whether the run has changed a table.
+// The answer's bodies, how many words those of the steps have at the front, and the changed flag.
 struct Plan {
     shape: Shape,
     scratch: usize,

@@ -1,4 +1,4 @@
-// The log's records, one after the other: where each ends, and the rows that they put into a table.
+// The log's records, one after the other: whether one is a removal, and the rows that they put into a table.
 ghost use mathlib.Core.Path.{_≡_};
 ghost use mathlib.Core.Bool.{true};
 ghost use Prim.Native.Nat.{_+_, _≤_};
