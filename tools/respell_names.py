@@ -16,7 +16,9 @@ import subprocess
 import sys
 
 WORD = re.compile(r'[^\s(){}.;,@"«»\[\]]+')
-DECLARED = re.compile(r"^ *(?:(?:pub|abbrev|unfoldable|pattern|record|data) +)*([^\s(){}.;,@\"«»]+)(?: \{[^{}\n]*\})*(?: \([^()]*\))* :(?= )(.*)")
+DECLARED = re.compile(r"^ *(?:(?:pub|abbrev|unfoldable|pattern|record|data) +)*([^\s(){}.;,@\"«»:]+(?: [^\s(){}.;,@\"«»:]+)*?)(?: \{[^{}\n]*\})*(?: \([^()]*\))* :(?= )(.*)")
+# Parameters of modules and names after "as", which no signature declares.
+PARAMETERS = "stopOf codeGoes isBytes refusedLine readPair machineStep lastBody isStage isKind finishInstr committedTable".split()
 SPAN = re.compile(r"`[^`\n]*`")
 
 
@@ -49,7 +51,8 @@ def table(root):
         for line in read(p).split("\n"):
             m = DECLARED.match(line)
             if m:
-                (goals if re.match(r" *(tie|goal)\.", m[2]) else own).add(m[1])
+                (goals if re.match(r" *(tie|goal)\.", m[2]) else own).update(m[1].split(" "))
+    own |= set(PARAMETERS)
     own -= goals
     new = {n: snake(n) for n in own if snake(n) != n}
     taken = {}

@@ -16,9 +16,9 @@ use Rattle.conclude.specs.declared.Outcome.{Outcome}
 use Rattle.conclude.specs.declared.Outcome.TheVariants.{Refused}
 use Rattle.conclude.specs.End.{Settles, Settling, by_length, committed_to, settled, by_stop, concluded}
 
-module _ (w : List ℕ) (p : Progress) (log rows answer : List ℕ) (n : ℕ) (n-is : n ≡ table_count w) (c : Left) (e : c ≡ committed_rows w n (take p.state.used log) rows) where
+module _ (w : List ℕ) (p : Progress) (log rows answer : List ℕ) (n : ℕ) (n_is : n ≡ table_count w) (c : Left) (e : c ≡ committed_rows w n (take p.state.used log) rows) where
   is_left : c ≡ committed_rows w (table_count w) (take p.state.used log) rows
-  is_left = e ∙ ap (λ (k : ℕ). committed_rows w k (take p.state.used log) rows) n-is
+  is_left = e ∙ ap (λ (k : ℕ). committed_rows w k (take p.state.used log) rows) n_is
 
   committed_settled : committed_to w p log answer c ≡ settled w p log rows answer
   unfolding settled

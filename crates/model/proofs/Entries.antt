@@ -10,7 +10,7 @@ use lib.ListN.{length, get_or, get_elem?, set}
 use Rattle.model.specs.Basics.{only}
 use Rattle.model.specs.Book.Syntax.{Counter, no_counter, QueryEntry, Var, Const, WriteVal, Entry, IncCounter, CurrentVal}
 use Rattle.model.specs.Machine.State.{Bindings}
-use Rattle.model.specs.Machine.Values.{hold, lane_of, value_of, cons?, values_of, list_of, isStuck, is_spent, built, push, draw, hand_out, build}
+use Rattle.model.specs.Machine.Values.{hold, lane_of, value_of, cons?, values_of, list_of, is_stuck, is_spent, built, push, draw, hand_out, build}
 use Rattle.model.specs.Check.{entries_of}
 use Rattle.model.specs.Claims.Trace.{In}
 use Rattle.model.specs.Laws.Logic.{some_inj, none_some, only_some, either}
@@ -62,7 +62,7 @@ abbrev pub BuiltFrom : Bindings → ℕ → List ℕ → List WriteVal → List 
 BuiltFrom b i row vs r = ((w : ℕ) → In w row → In w r) × ((e : QueryEntry) → In e (entries_of vs) → Word b i r e)
 
 module _ (b : Bindings) (i : ℕ) where
-  stuck_stays : (vs : List WriteVal) → build b i vs isStuck ≡ isStuck
+  stuck_stays : (vs : List WriteVal) → build b i vs is_stuck ≡ is_stuck
   stuck_stays [] = refl
   stuck_stays (v ∷ vs) = stuck_stays vs
 

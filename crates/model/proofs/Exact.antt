@@ -10,7 +10,7 @@ use native.Mathlib.Omega.{arith}
 use lib.ListN.{get_or}
 use Rattle.model.specs.Basics.{first_some}
 use Rattle.model.specs.Book.Words.{Refusal, unless}
-use Rattle.model.specs.Claims.Refusals.{InContents, counting, ending, entry, InBody, layout, absent, mark, repeat, InRule, size, unbound, heldOut, column, InRun, logFull, counterSpent, Fault, lengths, bytes, contents, body, rule, unfit, in_run, tablesFull, answerFull, stage_of, within, Before, Earlier}
+use Rattle.model.specs.Claims.Refusals.{InContents, counting, ending, entry, InBody, layout, absent, mark, repeat, InRule, size, unbound, held_out, column, InRun, log_full, counter_spent, Fault, lengths, bytes, contents, body, rule, unfit, in_run, tables_full, answer_full, stage_of, within, Before, Earlier}
 use Rattle.model.specs.Laws.Logic.{unless_none, unless_some, either}
 use Rattle.model.specs.Laws.Lists as lists
 use Rattle.model.specs.Laws.Lists.{first_some_none, first_some_some}
@@ -78,11 +78,11 @@ fault_at n l =
     ∷ (λ l. bytes)
     ∷ (λ l. contents (get_or (counting ∷ entry (at l 1) ∷ ending ∷ []) (at l 0) counting))
     ∷ (λ l. body (at l 0) (get_or (layout ∷ absent (at l 2) ∷ mark (at l 2) ∷ repeat (at l 2) ∷ []) (at l 1) layout))
-    ∷ (λ l. rule (at l 0) (at l 1) (get_or (size ∷ unbound ∷ heldOut ∷ column ∷ []) (at l 2) size))
+    ∷ (λ l. rule (at l 0) (at l 1) (get_or (size ∷ unbound ∷ held_out ∷ column ∷ []) (at l 2) size))
     ∷ (λ l. unfit (at l 0))
-    ∷ (λ l. in_run (at l 0) (get_or (logFull ∷ counterSpent ∷ []) (at l 1) logFull))
-    ∷ (λ l. tablesFull)
-    ∷ (λ l. answerFull)
+    ∷ (λ l. in_run (at l 0) (get_or (log_full ∷ counter_spent ∷ []) (at l 1) log_full))
+    ∷ (λ l. tables_full)
+    ∷ (λ l. answer_full)
     ∷ [])
     n (λ l. lengths) l
 
@@ -99,13 +99,13 @@ is_fault (body i (mark p)) = refl
 is_fault (body i (repeat row)) = refl
 is_fault (rule r j size) = refl
 is_fault (rule r j unbound) = refl
-is_fault (rule r j heldOut) = refl
+is_fault (rule r j held_out) = refl
 is_fault (rule r j column) = refl
 is_fault (unfit k) = refl
-is_fault (in_run k logFull) = refl
-is_fault (in_run k counterSpent) = refl
-is_fault tablesFull = refl
-is_fault answerFull = refl
+is_fault (in_run k log_full) = refl
+is_fault (in_run k counter_spent) = refl
+is_fault tables_full = refl
+is_fault answer_full = refl
 
 pub fault_cases : (f g : Fault) → (Earlier f g ⊎ Earlier g f) ⊎ (f ≡ g)
 fault_cases f g = of (before_cases (stage_of f ∷ within f) (stage_of g ∷ within g))
@@ -150,10 +150,10 @@ module _ (P : Fault → Type 0) where
   unfolding fault_at
   of_run h = at_stage 6 (λ l. h _ _)
 
-  pub of_tables : P tablesFull → (g : Fault) → stage_of g ≡ 7 → P g
+  pub of_tables : P tables_full → (g : Fault) → stage_of g ≡ 7 → P g
   unfolding fault_at
   of_tables h = at_stage 7 (λ l. h)
 
-  pub of_answer : P answerFull → (g : Fault) → stage_of g ≡ 8 → P g
+  pub of_answer : P answer_full → (g : Fault) → stage_of g ≡ 8 → P g
   unfolding fault_at
   of_answer h = at_stage 8 (λ l. h)

@@ -2,14 +2,14 @@
 use Prim.Native.Nat.{ℕ, zero, suc, ◌≤◌}
 use mathlib.Core.Path.{◌≡◌, refl, sym, ap, ◌∙◌}
 use mathlib.Core.Logic.{◌⊎◌, inl, inr}
-use mathlib.Core.Bool.{false}
-use mathlib.Core.Option.{Option}
+use mathlib.Core.Bool.{false, ◌&&◌}
+use mathlib.Core.Option.{Option, none}
 use lib.Dec.{T}
-use lib.ListN.{length, get_elem?}
-use Rattle.model.specs.Basics.{iter, found}
+use lib.ListN.{length, get_elem?, get_or}
+use Rattle.model.specs.Basics.{iter, when, found}
 use Rattle.model.specs.Book.Syntax.{Instr, Rule}
 use Rattle.model.specs.Machine.State.{State, Status, going, stuck, spent, full, is_going, Env}
-use Rattle.model.specs.Machine.Steps.{missed, finish, end, instruction, instructions}
+use Rattle.model.specs.Machine.Steps.{missed, is_live, is_none, finish, end, instruction, instructions}
 use Rattle.model.specs.Laws.Logic.{found_ind}
 use Rattle.model.specs.Laws.Iter.{iter_stop}
 
@@ -39,7 +39,7 @@ module _ (f : ℕ → State → State) (h : (i : ℕ) → Idle (f i)) where
 
 pub missed_idle : (f : ℕ → State → State) → Idle (missed f)
 unfolding missed
-missed_idle f s e = iter_idle _ (λ i s' e'. rw e') (length s.live) s e
+missed_idle f s e = iter_idle (λ i t. when (is_live t i && is_none (get_or t.out i none)) (f i) t) (λ i t h. rw h) (length s.live) s e
 
 pub finish_idle : (k : ℕ) (d : Option ℕ) → Idle (finish k d)
 unfolding finish

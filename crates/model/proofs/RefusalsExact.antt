@@ -17,7 +17,7 @@ use Rattle.model.specs.Machine.State.{State, stuck}
 use Rattle.model.specs.Machine.Functions.{apply}
 use Rattle.model.specs.Answer.{answer, row_words}
 use Rattle.model.specs.Outcome.{Lent, refused, accepted, lent_refusal, rules_refusal, words_refusal, book_refusal, committed_by, ended, end_refusal, left, committed, refusal, outcome}
-use Rattle.model.specs.Claims.Refusals.{LentOk, BytesOk, after, final, InContents, InBody, InRule, InRun, Fault, lengths, bytes, contents, body, rule, unfit, in_run, tablesFull, answerFull, AtBody, AtFault, stage_of, within, body_order, Before, Earlier, First, refusal_of, RefusalsExact, AcceptedExact}
+use Rattle.model.specs.Claims.Refusals.{LentOk, BytesOk, after, final, InContents, InBody, InRule, InRun, Fault, lengths, bytes, contents, body, rule, unfit, in_run, tables_full, answer_full, AtBody, AtFault, stage_of, within, body_order, Before, Earlier, First, refusal_of, RefusalsExact, AcceptedExact}
 use Rattle.model.specs.Laws.Logic.{and_split, and_join, none_some, some_inj, else_none, either, le_cases}
 use Rattle.model.specs.Laws.Contents.{contents_ok}
 use Rattle.model.proofs.Exact.{Exact, exact_unless, exact_first, fault_cases, of_lengths, of_bytes, of_contents, of_body, of_rule, of_unfit, of_run, of_tables, of_answer}
@@ -28,7 +28,7 @@ use Rattle.model.proofs.RunFaults.{run_exact, run_same}
 use Rattle.model.specs.Safety.Instance.{functions_fine}
 use Rattle.model.specs.Safety.BookClaims.{demand3, own_steps_lem}
 
-module _ (l : Lent) (book : List ℕ) (isBytes : All Byte book) where
+module _ (l : Lent) (book : List ℕ) (is_bytes : All Byte book) where
   abbrev w : List ℕ
   w = words_of book
 
@@ -47,11 +47,11 @@ module _ (l : Lent) (book : List ℕ) (isBytes : All Byte book) where
     first : (r : Refusal) → o ≡ some r → (f : Fault) × (stage_of f ≡ n) × At f × (refusal_of book f ≡ r) × ((g : Fault) → stage_of g ≡ n → Before (within g) (within f) → At g → ⊥)
 
   -- by its own kind of fault
-  module _ (n : ℕ) (A : Type 0) (make : A → Fault) (isStage : (a : A) → stage_of (make a) ≡ n) (view : (P : Fault → Type 0) → ((a : A) → P (make a)) → (g : Fault) → stage_of g ≡ n → P g) where
+  module _ (n : ℕ) (A : Type 0) (make : A → Fault) (is_stage : (a : A) → stage_of (make a) ≡ n) (view : (P : Fault → Type 0) → ((a : A) → P (make a)) → (g : Fault) → stage_of g ≡ n → P g) where
     stage : (o : Option Refusal) → Exact A (λ a. within (make a)) (λ a. At (make a)) (λ a. refusal_of book (make a)) o → Stage n o
     stage o e = record {
       clear = λ q. view (λ g. At g → ⊥) (e.clear q);
-      first = λ r q. let d = e.first r q in (make d.0, isStage d.0, d.1, d.2, view (λ g. Before (within g) (within (make d.0)) → At g → ⊥) d.3);
+      first = λ r q. let d = e.first r q in (make d.0, is_stage d.0, d.1, d.2, view (λ g. Before (within g) (within (make d.0)) → At g → ⊥) d.3);
     }
 
   -- the chain of refusals so far: drawn for the first fault of all, or for none
@@ -82,8 +82,8 @@ module _ (l : Lent) (book : List ℕ) (isBytes : All Byte book) where
   below_9 (rule r j c) = omega arith
   below_9 (unfit k) = omega arith
   below_9 (in_run k c) = omega arith
-  below_9 tablesFull = omega arith
-  below_9 answerFull = omega arith
+  below_9 tables_full = omega arith
+  below_9 answer_full = omega arith
 
   -- ## The nine stages
 
@@ -120,7 +120,7 @@ module _ (l : Lent) (book : List ℕ) (isBytes : All Byte book) where
   module _ (unrefused : book_refusal book ≡ none) where
     unstuck : (after w (step_count w)).status ≢ stuck
     unfolding after
-    unstuck = (demand3 book isBytes unrefused (λ o call. apply) (λ o call f args v c e. functions_fine f args v c e) (λ _. true) (steps w) (own_steps_lem book isBytes unrefused) (step_count w)).never_stuck
+    unstuck = (demand3 book is_bytes unrefused (λ o call. apply) (λ o call f args v c e. functions_fine f args v c e) (λ _. true) (steps w) (own_steps_lem book is_bytes unrefused) (step_count w)).never_stuck
 
     run_stage : Stage 6 (ended (left l book).status (first_step w + length (left l book).answers))
     run_stage = stage 6 (ℕ × InRun) (λ p. in_run p.0 p.1) (λ _. refl) (λ P h. of_run P (λ k c. h (k, c))) _ (run_exact l w unstuck)
@@ -150,11 +150,11 @@ module _ (l : Lent) (book : List ℕ) (isBytes : All Byte book) where
 
       tables_stage : Stage 7 (unless (leb (row_words (committed l book)) l.tables) 15 0)
       tables_stage = subst (λ (s : State). Stage 7 (unless (leb (row_words (committed_by w s)) l.tables) 15 0)) (sym same)
-          (size_stage 7 15 (row_words (final w)) l.tables tablesFull refl of_tables (λ v. v) (λ v. v) refl refl)
+          (size_stage 7 15 (row_words (final w)) l.tables tables_full refl of_tables (λ v. v) (λ v. v) refl refl)
 
       answer_stage : Stage 8 (unless (leb (length (answer (committed l book) (left l book))) l.answer) 16 0)
       answer_stage = subst (λ (s : State). Stage 8 (unless (leb (length (answer (committed_by w s) s)) l.answer) 16 0)) (sym same)
-          (size_stage 8 16 (length (answer (final w) (after w (step_count w)))) l.answer answerFull refl of_answer (λ v. v) (λ v. v) refl refl)
+          (size_stage 8 16 (length (answer (final w) (after w (step_count w)))) l.answer answer_full refl of_answer (λ v. v) (λ v. v) refl refl)
 
   -- ## All of them
 
@@ -242,7 +242,7 @@ module _ (l : Lent) (book : List ℕ) (isBytes : All Byte book) where
           (b.0, (else_none (ended (left l book).status (first_step w + length (left l book).answers)) _ b.1).0)
 
 pub refusals_exact : RefusalsExact
-refusals_exact l book isBytes r = exact l book isBytes r
+refusals_exact l book is_bytes r = exact l book is_bytes r
 
 pub accepted_exact : AcceptedExact
-accepted_exact l book isBytes h = accepts l book isBytes h
+accepted_exact l book is_bytes h = accepts l book is_bytes h

@@ -16,7 +16,7 @@ use Rattle.model.specs.Book.Read.{tables}
 use Rattle.model.specs.Check.{reads_of, held_of, sizes_of, columns_of, Fits, IsKnown, NotHeld, Below, Known, fits?, known?, free?, below?, refuse, check_instr, bound?, placed, check_at, check}
 use Rattle.model.specs.Machine.Functions.{arity}
 use Rattle.model.specs.Outcome.{rule_first, rule_refusal, rules_refusal}
-use Rattle.model.specs.Claims.Refusals.{InRule, size, unbound, heldOut, column, AtRule, number_of, rule, rule_order, Before}
+use Rattle.model.specs.Claims.Refusals.{InRule, size, unbound, held_out, column, AtRule, number_of, rule, rule_order, Before}
 use Rattle.model.specs.Laws.Logic.{none_some, some_inj, either, at_length, at_below}
 use Rattle.model.specs.Safety.CheckExact.{all→All, All→all, fits→, →fits, known→, →known, free→, →free, below→, →below, bound→, →bound}
 use Rattle.model.proofs.Exact.{Exact, exact_map, exact_first}
@@ -50,41 +50,41 @@ module _ (At : InRule → Type 0) (place : ℕ) (C : InRule → Type 0) (fails :
   no' : (c : InRule) (b : Bool) → b ≡ false → Tells b (C c) → C c → ⊥
   no' c b e t h = true≢false (sym (t.back h) ∙ e)
 
-  tests : (a b c d : Bool) → Tells a (C size) → Tells b (C unbound) → Tells c (C heldOut) → Tells d (C column) → Is (refuse a 8 (refuse b 7 (refuse c 10 (refuse d 9 none))))
+  tests : (a b c d : Bool) → Tells a (C size) → Tells b (C unbound) → Tells c (C held_out) → Tells d (C column) → Is (refuse a 8 (refuse b 7 (refuse c 10 (refuse d 9 none))))
   tests false b c d ta tb tc td = record { clear = λ e. absurd (none_some (sym e)); first = λ r e. (size, fails size (no' size false refl ta), some_inj e, before) }
     where
       before : (x : InRule) → Before (rule_order x) (0 ∷ []) → At x → ⊥
       before size l v = either (λ q. omega arith) (λ q. q.1) l
       before unbound l v = either (λ q. omega arith) (λ q. omega (arith, q.0)) l
-      before heldOut l v = either (λ q. omega arith) (λ q. omega (arith, q.0)) l
+      before held_out l v = either (λ q. omega arith) (λ q. omega (arith, q.0)) l
       before column l v = either (λ q. omega arith) (λ q. omega (arith, q.0)) l
   tests true false c d ta tb tc td = record { clear = λ e. absurd (none_some (sym e)); first = λ r e. (unbound, fails unbound (no' unbound false refl tb), some_inj e, before) }
     where
       before : (x : InRule) → Before (rule_order x) (1 ∷ []) → At x → ⊥
       before size l v = holds size v (ta.yes' refl)
       before unbound l v = either (λ q. omega arith) (λ q. q.1) l
-      before heldOut l v = either (λ q. omega arith) (λ q. omega (arith, q.0)) l
+      before held_out l v = either (λ q. omega arith) (λ q. omega (arith, q.0)) l
       before column l v = either (λ q. omega arith) (λ q. omega (arith, q.0)) l
-  tests true true false d ta tb tc td = record { clear = λ e. absurd (none_some (sym e)); first = λ r e. (heldOut, fails heldOut (no' heldOut false refl tc), some_inj e, before) }
+  tests true true false d ta tb tc td = record { clear = λ e. absurd (none_some (sym e)); first = λ r e. (held_out, fails held_out (no' held_out false refl tc), some_inj e, before) }
     where
       before : (x : InRule) → Before (rule_order x) (2 ∷ []) → At x → ⊥
       before size l v = holds size v (ta.yes' refl)
       before unbound l v = holds unbound v (tb.yes' refl)
-      before heldOut l v = either (λ q. omega arith) (λ q. q.1) l
+      before held_out l v = either (λ q. omega arith) (λ q. q.1) l
       before column l v = either (λ q. omega arith) (λ q. omega (arith, q.0)) l
   tests true true true false ta tb tc td = record { clear = λ e. absurd (none_some (sym e)); first = λ r e. (column, fails column (no' column false refl td), some_inj e, before) }
     where
       before : (x : InRule) → Before (rule_order x) (3 ∷ []) → At x → ⊥
       before size l v = holds size v (ta.yes' refl)
       before unbound l v = holds unbound v (tb.yes' refl)
-      before heldOut l v = holds heldOut v (tc.yes' refl)
+      before held_out l v = holds held_out v (tc.yes' refl)
       before column l v = either (λ q. omega arith) (λ q. q.1) l
   tests true true true true ta tb tc td = record { clear = λ e c v. clear c v; first = λ r e. absurd (none_some e) }
     where
       clear : (c : InRule) → At c → ⊥
       clear size v = holds size v (ta.yes' refl)
       clear unbound v = holds unbound v (tb.yes' refl)
-      clear heldOut v = holds heldOut v (tc.yes' refl)
+      clear held_out v = holds held_out v (tc.yes' refl)
       clear column v = holds column v (td.yes' refl)
 
 -- ## A rule, and the rules
@@ -104,7 +104,7 @@ module _ (w : List ℕ) where
   abbrev Must : Rule → ℕ → Instr → InRule → Type 0
   Must R j ins size = All Fits (sizes_of (tables w) arity ins)
   Must R j ins unbound = All (IsKnown (Known R j)) (reads_of ins)
-  Must R j ins heldOut = All NotHeld (held_of ins)
+  Must R j ins held_out = All NotHeld (held_of ins)
   Must R j ins column = All Below (columns_of (tables w) arity ins)
 
   module _ (r : ℕ) where
@@ -124,7 +124,7 @@ module _ (w : List ℕ) where
     same_number : (j : ℕ) (c : InRule) → number_of (rule 0 0 c) ≡ number_of (rule r j c)
     same_number j size = refl
     same_number j unbound = refl
-    same_number j heldOut = refl
+    same_number j held_out = refl
     same_number j column = refl
 
     draws_is : (j : ℕ) (ins : Instr) → get_elem? R.instrs j ≡ some ins → drawn (instr_place w (rule_first w r) j) (check_instr (tables w) arity (bound? R j) ins) ≡ draws j
@@ -159,13 +159,13 @@ module _ (w : List ℕ) where
   to_rule : (r j : ℕ) (c : InRule) → r < rule_count w → Fails r j c → AtRule w r j c
   to_rule r j size l v = (l, v.0, v.1, v.2)
   to_rule r j unbound l v = (l, v.0, v.1, v.2)
-  to_rule r j heldOut l v = (l, v.0, v.1, v.2)
+  to_rule r j held_out l v = (l, v.0, v.1, v.2)
   to_rule r j column l v = (l, v.0, v.1, v.2)
 
   of_rule : (r j : ℕ) (c : InRule) → AtRule w r j c → (r < rule_count w) × ((j < length (R r).instrs) × Fails r j c)
   of_rule r j size v = (v.0, (at_below (R r).instrs j v.2, (v.1, v.2, v.3)))
   of_rule r j unbound v = (v.0, (at_below (R r).instrs j v.2, (v.1, v.2, v.3)))
-  of_rule r j heldOut v = (v.0, (at_below (R r).instrs j v.2, (v.1, v.2, v.3)))
+  of_rule r j held_out v = (v.0, (at_below (R r).instrs j v.2, (v.1, v.2, v.3)))
   of_rule r j column v = (v.0, (at_below (R r).instrs j v.2, (v.1, v.2, v.3)))
 
   pub rules_exact : Exact (ℕ × (ℕ × InRule)) (λ p. p.0 ∷ p.1.0 ∷ rule_order p.1.1) (λ p. AtRule w p.0 p.1.0 p.1.1) (λ p. says_at p.0 p.1.0 p.1.1) (rules_refusal w)

@@ -12,7 +12,7 @@ use Rattle.model.specs.Book.Contents.{step_count, first_step}
 use Rattle.model.specs.Book.Read.{counters, step, steps}
 use Rattle.model.specs.Machine.State.{State, Status, going, stuck, spent, full, is_going, log_words}
 use Rattle.model.specs.Outcome.{Lent, env_of, ran, ended}
-use Rattle.model.specs.Claims.Refusals.{after, InRun, logFull, counterSpent, AtRun, run_order, number_of, in_run, Before}
+use Rattle.model.specs.Claims.Refusals.{after, InRun, log_full, counter_spent, AtRun, run_order, number_of, in_run, Before}
 use Rattle.model.specs.Laws.Logic.{none_some, some_inj, either}
 use Rattle.model.specs.Laws.Lists.{length_tab}
 use Rattle.model.proofs.Exact.{Exact}
@@ -70,8 +70,8 @@ module _ (l : Lent) (w : List ℕ) (unstuck : (after w (step_count w)).status �
 
   -- while the run goes on at k no step before k was at fault, if the log holds the records
   none_before : (k : ℕ) → (after w k).status ≡ going → log_words (after w k).log ≤ L → (j : ℕ) (c : InRun) → j < k → AtRun l w j c → ⊥
-  none_before k g h j logFull b v = omega (arith, v.1, h, grows (suc j) k b)
-  none_before k g h j counterSpent b v = false≢true (sym (ap is_going v.1) ∙ ap (λ (s : State). is_going s.status) (sym (stays (suc j) k b (ap is_going v.1))) ∙ ap is_going g)
+  none_before k g h j log_full b v = omega (arith, v.1, h, grows (suc j) k b)
+  none_before k g h j counter_spent b v = false≢true (sym (ap is_going v.1) ∙ ap (λ (s : State). is_going s.status) (sym (stays (suc j) k b (ap is_going v.1))) ∙ ap is_going g)
 
   -- ## The refusal
 
@@ -91,7 +91,7 @@ module _ (l : Lent) (w : List ℕ) (unstuck : (after w (step_count w)).status �
       by full g = absurd (has_room n g)
       by spent g = record {
         clear = λ e. absurd (none_some (sym e));
-        first = λ r e. ((k, counterSpent), (s.before, s.went, (log_fits, ap (λ (x : State). x.status) (sym s.same) ∙ g)), place (after w n) k 13 s.count ∙ some_inj e, earlier);
+        first = λ r e. ((k, counter_spent), (s.before, s.went, (log_fits, ap (λ (x : State). x.status) (sym s.same) ∙ g)), place (after w n) k 13 s.count ∙ some_inj e, earlier);
       }
         where
           s : Stops
@@ -105,21 +105,21 @@ module _ (l : Lent) (w : List ℕ) (unstuck : (after w (step_count w)).status �
 
           earlier : (q : ℕ × InRun) → Before (rank q) (s.last ∷ 1 ∷ []) → At q → ⊥
           earlier q (inl b) v = none_before s.last s.went (omega (arith, grows s.last (suc s.last) (omega arith), log_fits)) q.0 q.1 b v.2
-          earlier (j, logFull) (inr (e, b)) v = omega (arith, subst (λ (i : ℕ). L < log_words (after w (suc i)).log) e v.2.1, log_fits)
-          earlier (j, counterSpent) (inr (e, b)) v = either (λ q. omega arith) (λ q. q.1) b
+          earlier (j, log_full) (inr (e, b)) v = omega (arith, subst (λ (i : ℕ). L < log_words (after w (suc i)).log) e v.2.1, log_fits)
+          earlier (j, counter_spent) (inr (e, b)) v = either (λ q. omega arith) (λ q. q.1) b
 
   -- the log was full
   module _ (s : State) (k : ℕ) (ends : s.status ≡ full) (count : length s.answers ≡ k) (below : k < n) (went : (after w k).status ≡ going) (fits : log_words (after w k).log ≤ L) (passes : L < log_words (after w (suc k)).log) where
     full_exact : Is s
     full_exact = rw ends (record {
       clear = λ e. absurd (none_some (sym e));
-      first = λ r e. ((k, logFull), (below, went, (fits, passes)), place s k 12 count ∙ some_inj e, earlier);
+      first = λ r e. ((k, log_full), (below, went, (fits, passes)), place s k 12 count ∙ some_inj e, earlier);
     })
       where
         earlier : (q : ℕ × InRun) → Before (rank q) (k ∷ 0 ∷ []) → At q → ⊥
         earlier q (inl b) v = none_before k went fits q.0 q.1 b v.2
-        earlier (j, logFull) (inr (e, b)) v = either (λ q. omega arith) (λ q. q.1) b
-        earlier (j, counterSpent) (inr (e, b)) v = either (λ q. omega arith) (λ q. omega (arith, q.0)) b
+        earlier (j, log_full) (inr (e, b)) v = either (λ q. omega arith) (λ q. q.1) b
+        earlier (j, counter_spent) (inr (e, b)) v = either (λ q. omega arith) (λ q. omega (arith, q.0)) b
 
   -- ## The run with the log lent
 

@@ -13,7 +13,7 @@ use lib.ListN.{length, get_or, get_elem?, length-replicate}
 use Rattle.model.specs.Basics.{only, first}
 use Rattle.model.specs.Book.Syntax.{Counter, no_counter, next_of, limit, QueryEntry, WriteVal, Entry, IncCounter, CurrentVal, Instr, LookupOrInsertDefault, LookupWithDefault, Lookup, LookupWithFallback, Insert, InsertIfEq, Remove, External, ExternalWithFallback, AssertEq, AssertNe, AssertAnyNe, ReadCounter, dst_of, Rule, Step, batch, prediction, rule_at}
 use Rattle.model.specs.Machine.State.{State, reads, Status, going, stuck, spent, is_going, Bindings, Env, frame}
-use Rattle.model.specs.Machine.Values.{hold, value_of, values_of, find, predicted_rows, Built, isStuck, is_spent, built, push, hand_out, write, build}
+use Rattle.model.specs.Machine.Values.{hold, value_of, values_of, find, predicted_rows, Built, is_stuck, is_spent, built, push, hand_out, write, build}
 use Rattle.model.specs.Machine.Steps.{here, is_live, is_none, table_of, lanes, missed, wait, clear, bind_out, any_live, begin, end, finish, serve_missed, body, instruction, instructions, predict, step, run}
 use Rattle.model.specs.Claims.Refusals.{Overdraws, Spends, by_lane, by_prediction, SpentExact}
 use Rattle.model.specs.Laws.Logic.{and_T, T-cases, either, found_ind, when_ind, when_cases, at_below}
@@ -34,7 +34,7 @@ use Rattle.model.proofs.TraceEnds.{missed_goes, first_ends, looks_go, calls_go, 
 built≢spent : (row : List ℕ) (cs : List Counter) → built row cs ≢ is_spent
 built≢spent row cs e = let z : ◌≡◌ {A = ℕ} 0 1 = cc in omega arith
 
-stuck_built : (b : Bindings) (i : ℕ) (vs : List WriteVal) → build b i vs isStuck ≢ is_spent
+stuck_built : (b : Bindings) (i : ℕ) (vs : List WriteVal) → build b i vs is_stuck ≢ is_spent
 stuck_built b i [] e = let z : ◌≡◌ {A = ℕ} 0 1 = cc in omega arith
 stuck_built b i (v ∷ vs) e = stuck_built b i vs e
 
@@ -57,7 +57,7 @@ overdrawn b i [] row cs e = absurd (built≢spent row cs e)
 overdrawn b i (v ∷ vs) row cs e = go (write b i v (built row cs)) refl e (overdrawn b i vs)
   where
     go : (B : Built) → write b i v (built row cs) ≡ B → build b i vs B ≡ is_spent → ((r : List ℕ) (ds : List Counter) → build b i vs (built r ds) ≡ is_spent → Overdraws b i r vs ds) → Overdraws b i row (v ∷ vs) cs
-    go isStuck q z h = absurd (stuck_built b i vs z)
+    go is_stuck q z h = absurd (stuck_built b i vs z)
     go is_spent q z h =
         let w = write_spent b i v row cs q in
         record { before = []; spender = w.0; behind = vs; values = ap (λ x. x ∷ vs) w.1; row = row; counters = cs; reached = refl; passes = w.2 }

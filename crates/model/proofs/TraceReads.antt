@@ -210,11 +210,11 @@ module _ (E : Env) (k j : ℕ) (s₀ : State) (g₀ : Going s₀) (i : ℕ) (l :
         let a = turn_of loid g in
         let c = look_went o E a.start t args col wait (turn_went a g) in
         let read : values_of s.bindings i args ≡ some c.0 = list_values s.bindings i (table_of E t).keys args (subst (λ b. list_of b i (table_of E t).keys args ≡ some c.0) a.before.bindings c.1) in
-        let none-new : Longer (λ q. q.site.lane ≢ i) s.log served.log → ⊥ = λ m. longer_new (λ q. q.site.lane ≢ i) s.log served.log m n le at (ap (λ x. x.lane) here') in
+        let none_new : Longer (λ q. q.site.lane ≢ i) s.log served.log → ⊥ = λ m. longer_new (λ q. q.site.lane ≢ i) s.log served.log m n le at (ap (λ x. x.lane) here') in
         either
         (λ p. let past = missed_past k j _ (Served E k j dst t args) (serve_turn E k j dst t args vs col) (first loid) i p.2.0.word p.2.0.dst in
-        absurd (none-new (longer_trans _ s.log (first loid).log served.log p.2.1 past.grows.log)))
-        (λ p. either (λ v. serve_words c.0 v r n le at here' e h) (λ q. absurd (none-new q.0.1)) (serves c.0 (read, p.0) g u))
+        absurd (none_new (longer_trans _ s.log (first loid).log served.log p.2.1 past.grows.log)))
+        (λ p. either (λ v. serve_words c.0 v r n le at here' e h) (λ q. absurd (none_new q.0.1)) (serves c.0 (read, p.0) g u))
         (looked E k j t args col (λ _. wait) (look_turn E k j t args col) s size i l c.0 read g)
 
     -- where a row that is built has no room, it is in the last event,

@@ -27,7 +27,7 @@ use Rattle.record_log.specs.Walk.{end_of}
 use Rattle.record_log.specs.RecordLaws.{Sized, size_is, records_of, words_are, walk_records}
 use Rattle.report.specs.declared.lines.Family.{Family}
 use Rattle.report.specs.declared.lines.Family.TheVariants.{Steps, Tables, Counters}
-use Rattle.report.specs.Lines.{numbered, record_line, body_of, entry_line, family_lines, log_body as lastBody, record_lines, log_lines, answer_lines}
+use Rattle.report.specs.Lines.{numbered, record_line, body_of, entry_line, family_lines, log_body as last_body, record_lines, log_lines, answer_lines}
 use Rattle.report.specs.Entries.{count_is, kind_is, body_is, word_is}
 
 -- ## Lists
@@ -217,7 +217,7 @@ module _ (ts : List Table) (cs : List Counter) (as' : List Answer) (changes : Bo
 
   -- ## The log
 
-  log_body_lem : lastBody w ≡ last.words
+  log_body_lem : last_body w ≡ last.words
   log_body_lem =
       let n : length bodies - 1 ≡ length front = omega (arith, length-append front (last ∷ [])) in
       rw (count_is bodies, n) (body_is bodies (length front) last (at_end front last))

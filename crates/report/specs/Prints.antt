@@ -10,10 +10,10 @@ use Rattle.model.specs.Book.Contents.{table_count, first_of}
 use Rattle.model.specs.Book.Decode.{read_table}
 use Rattle.model.specs.Book.Read.{tables}
 use Rattle.model.specs.Machine.State.{Record, record_size}
-use Rattle.model.specs.Commit.{committed as committedTable, commit}
+use Rattle.model.specs.Commit.{committed as committed_table, commit}
 use Rattle.model.specs.Answer.{Perm, same, keep, swap, both, Arranged, answer, flag}
 use Rattle.model.specs.Outcome.{Lent, Outcome, refused, accepted, left, committed, refusal, outcome, Permitted}
-use Rattle.model.specs.Printed.{Line, refused as refusedLine, table, changed, step_lines, record_lines, table_lines, counter_lines, printed}
+use Rattle.model.specs.Printed.{Line, refused as refused_line, table, changed, step_lines, record_lines, table_lines, counter_lines, printed}
 use Rattle.model.specs.Laws.Logic.{All-map}
 use Rattle.model.specs.Laws.Lists.{length_tab}
 use Rattle.record_log.specs.RecordLaws.{Sized}
@@ -23,7 +23,7 @@ use Rattle.report.specs.AnswerLines.{Fits, answer_lines_lem}
 use Rattle.report.specs.Bound.{Small, refused_short, answer_short}
 
 abbrev pub outcome_lines : Outcome → List Line
-outcome_lines (refused r) = refusedLine r.number r.place ∷ []
+outcome_lines (refused r) = refused_line r.number r.place ∷ []
 outcome_lines (accepted ws) = answer_lines ws
 
 -- an answer has n words at most, each below 10 ^ 10
@@ -41,7 +41,7 @@ alike_size : {a b : Table} → Alike a b → (kind : ℕ) → record_size a kind
 alike_size {a} {b} h kind = rw (h.keys, h.vals)
 
 commit_alike : (log : List Record) (ts : List Table) (n t : ℕ) → Alike (table_at ts t) (table_at (commit log ts n) t)
-unfolding commit committedTable
+unfolding commit committed_table
 commit_alike log [] n t = record { keys = refl; vals = refl }
 commit_alike log (u ∷ ts) n zero = record { keys = refl; vals = refl }
 commit_alike log (u ∷ ts) n (suc t) = commit_alike log ts (suc n) t
@@ -97,7 +97,7 @@ module _ (l : Lent) (book : List ℕ) where
         size = s.size ∙ alike_size (commit_alike log ts 0 r.table) r.kind ∙ alike_size (arranged_alike (committed l book) us h r.table) r.kind;
       }
 
-  refused_printed : (r : Refusal) → refusal l book ≡ some r → refusedLine r.number r.place ∷ [] ≡ printed l book
+  refused_printed : (r : Refusal) → refusal l book ≡ some r → refused_line r.number r.place ∷ [] ≡ printed l book
   unfolding printed
   refused_printed r e = rw e
 
@@ -126,7 +126,7 @@ module _ (l : Lent) (book : List ℕ) where
     pub permitted_lines : (o : Outcome) → Permitted l book o → outcome_lines o ≡ printed l book
     permitted_lines (refused r) p = by (refusal l book) refl
       where
-        by : (x : Option Refusal) → refusal l book ≡ x → refusedLine r.number r.place ∷ [] ≡ printed l book
+        by : (x : Option Refusal) → refusal l book ≡ x → refused_line r.number r.place ∷ [] ≡ printed l book
         by none e = let z : ◌≡◌ {A = ℕ} 0 1 = clash (sym (outcome_accepted e) ∙ p) in absurd (omega arith)
         by (some q) e = rw (its (sym (outcome_refused q e) ∙ p)) (refused_printed q e)
     permitted_lines (accepted ws) p = let e = unrefused (answer (committed l book) (left l book)) p.3 in rw p.2 (accepted_printed p.0 e p.1 (sized e))

@@ -29,7 +29,7 @@ use Rattle.instr.specs.Meaning.{instr_of}
 use Rattle.instr.specs.Stands.{binds_of, IsVariable}
 use Rattle.instr.specs.StandsLaws.{binds}
 use Rattle.execution.specs.declared.Stop.TheVariants.{Going}
-use Rattle.execution.specs.Execution.{goes_on, is_going as codeGoes}
+use Rattle.execution.specs.Execution.{goes_on, is_going as code_goes}
 use Rattle.action.specs.Act.{Lanes, acted}
 use Rattle.action.specs.Run.{Running, begun, finished, ran_instr, ran_next, ran_instrs}
 use Rattle.simulation.specs.Represents.{machine, LogIs, Follows, sticks, stops, goes, not_going}
@@ -160,7 +160,7 @@ module _ (w : List ℕ) (L : ℕ) (short : L ≤ 16384) (answers : List Answer) 
 
   halted : (p : ℕ) (r : Running) → goes_on r.batch.state.stop ≡ false → ran_next w p r ≡ r
   unfolding ran_next
-  halted p r e = when_F (codeGoes r.batch.state && any_live r.batch.mask.live) (ran_instr w (instr_at w p)) r (rw e)
+  halted p r e = when_F (code_goes r.batch.state && any_live r.batch.mask.live) (ran_instr w (instr_at w p)) r (rw e)
 
   -- instruction j of the rule, which stands at p
   next_follows : (k j p : ℕ) (s : State) (r : Running) → s.status ≡ going → r.batch.state.stop ≡ Going → BatchIs w L answers s r → Fits w (instr_at w p)
@@ -171,20 +171,20 @@ module _ (w : List ℕ) (L : ℕ) (short : L ≤ 16384) (answers : List Answer) 
       act : State → State
       act s' = finish k (dst_of (decode.instr_at w p)) (body (machine w L) k j (decode.instr_at w p) (clear s'))
 
-      code_live : (q : Bool) → any_live s.live ≡ q → codeGoes r.batch.state && any_live r.batch.mask.live ≡ q
+      code_live : (q : Bool) → any_live s.live ≡ q → code_goes r.batch.state && any_live r.batch.mask.live ≡ q
       code_live q e = rw o (ap any_live b.live ∙ any_padded s.live ∙ e)
 
-      by : (q : Bool) → any_live s.live ≡ q → let s' : State = when (is_going s.status && any_live s.live) act s in let r' : Running = when (codeGoes r.batch.state && any_live r.batch.mask.live) (ran_instr w (instr_at w p)) r in Follows s s' r'.batch.state.stop (BatchIs w L answers s' r')
+      by : (q : Bool) → any_live s.live ≡ q → let s' : State = when (is_going s.status && any_live s.live) act s in let r' : Running = when (code_goes r.batch.state && any_live r.batch.mask.live) (ran_instr w (instr_at w p)) r in Follows s s' r'.batch.state.stop (BatchIs w L answers s' r')
       by true e =
           let m : when (is_going s.status && any_live s.live) act s ≡ act s = when_T (is_going s.status && any_live s.live) act s (rw (a, e)) in
-          let c : when (codeGoes r.batch.state && any_live r.batch.mask.live) (ran_instr w (instr_at w p)) r ≡ ran_instr w (instr_at w p) r = when_T (codeGoes r.batch.state && any_live r.batch.mask.live) (ran_instr w (instr_at w p)) r (code_live true e) in
-          subst (λ (s' : State). let r' : Running = when (codeGoes r.batch.state && any_live r.batch.mask.live) (ran_instr w (instr_at w p)) r in Follows s s' r'.batch.state.stop (BatchIs w L answers s' r')) (sym m)
+          let c : when (code_goes r.batch.state && any_live r.batch.mask.live) (ran_instr w (instr_at w p)) r ≡ ran_instr w (instr_at w p) r = when_T (code_goes r.batch.state && any_live r.batch.mask.live) (ran_instr w (instr_at w p)) r (code_live true e) in
+          subst (λ (s' : State). let r' : Running = when (code_goes r.batch.state && any_live r.batch.mask.live) (ran_instr w (instr_at w p)) r in Follows s s' r'.batch.state.stop (BatchIs w L answers s' r')) (sym m)
           (subst (λ (r' : Running). Follows s (act s) r'.batch.state.stop (BatchIs w L answers (act s) r')) (sym c)
           (subst (λ (ins : syntax.Instr). let s' : State = finish k (dst_of ins) (body (machine w L) k j ins (clear s)) in Follows s s' (ran_instr w (instr_at w p) r).batch.state.stop (BatchIs w L answers s' (ran_instr w (instr_at w p) r))) (instr_at_lem w p) (instr_follows k j s r a o b (instr_at w p) f)))
       by false e =
           let m : when (is_going s.status && any_live s.live) act s ≡ s = when_F (is_going s.status && any_live s.live) act s (rw (a, e)) in
-          let c : when (codeGoes r.batch.state && any_live r.batch.mask.live) (ran_instr w (instr_at w p)) r ≡ r = when_F (codeGoes r.batch.state && any_live r.batch.mask.live) (ran_instr w (instr_at w p)) r (code_live false e) in
-          subst (λ (s' : State). let r' : Running = when (codeGoes r.batch.state && any_live r.batch.mask.live) (ran_instr w (instr_at w p)) r in Follows s s' r'.batch.state.stop (BatchIs w L answers s' r')) (sym m)
+          let c : when (code_goes r.batch.state && any_live r.batch.mask.live) (ran_instr w (instr_at w p)) r ≡ r = when_F (code_goes r.batch.state && any_live r.batch.mask.live) (ran_instr w (instr_at w p)) r (code_live false e) in
+          subst (λ (s' : State). let r' : Running = when (code_goes r.batch.state && any_live r.batch.mask.live) (ran_instr w (instr_at w p)) r in Follows s s' r'.batch.state.stop (BatchIs w L answers s' r')) (sym m)
           (subst (λ (r' : Running). Follows s s r'.batch.state.stop (BatchIs w L answers s r')) (sym c) (goes a o b))
 
   -- n of them, of the rule whose body begins at the word `at`

@@ -14,7 +14,7 @@ use Rattle.model.specs.Book.Syntax as syntax
 use Rattle.model.specs.Book.Contents.{counter_count}
 use Rattle.model.specs.Book.Decode as decode
 use Rattle.model.specs.Machine.State.{Bindings}
-use Rattle.model.specs.Machine.Values.{value_of, Built, isStuck, is_spent, built, push, draw, hand_out, write, build}
+use Rattle.model.specs.Machine.Values.{value_of, Built, is_stuck, is_spent, built, push, draw, hand_out, write, build}
 use Rattle.model.specs.Laws.Logic.{none_some, some_inj, at_below}
 use Rattle.model.specs.Laws.Turns.{when_T, when_F}
 use Rattle.args.specs.declared.Args.{Args}
@@ -49,7 +49,7 @@ pub record RowIs (w : List ℕ) (n : ℕ) (row : List ℕ) (cs : List Counter) (
   pub unspent : b.spent ≡ false
 
 abbrev pub BuildIs : List ℕ → ℕ → Built → Building → Type 0
-BuildIs w n isStuck b = Unit {0}
+BuildIs w n is_stuck b = Unit {0}
 BuildIs w n is_spent b = b.spent ≡ true
 BuildIs w n (built row cs) b = RowIs w n row cs b
 
@@ -105,7 +105,7 @@ module _ (w : List ℕ) (bindings : Bindings) (i : ℕ) (m : List ℕ) (reads : 
       by (some y) q = record { row_is = rw (current_is row n b.row h.row_is x y q) (push_is row n b.row h.row_is l y); next = h.next; counted = h.counted; unspent = h.unspent }
 
   next_is : (p : ℕ) → Writable w (write_at w p) → (n : ℕ) (B : Built) (b : Building) → n < 16 → BuildIs w n B b → BuildIs w (suc n) (write bindings i (decode.write_at w p) B) (code.written_next w m i p b)
-  next_is p ok n isStuck b l h = tt
+  next_is p ok n is_stuck b l h = tt
   next_is p ok n is_spent b l h = subst (λ (c : Building). c.spent ≡ true) (sym (when_F (not b.spent) (code.written m i (write_at w p)) b (ap not h))) h
   next_is p ok n (built row cs) b l h = subst (λ (c : Building). BuildIs w (suc n) (write bindings i (decode.write_at w p) (built row cs)) c) (sym (when_T (not b.spent) (code.written m i (write_at w p)) b (ap not h.unspent)))
       (subst (λ (v : syntax.WriteVal). BuildIs w (suc n) (write bindings i v (built row cs)) (code.written m i (write_at w p) b)) (write_at_lem w p) (written_is (write_at w p) ok n row cs b l h))
@@ -125,7 +125,7 @@ module _ (w : List ℕ) (bindings : Bindings) (i : ℕ) (m : List ℕ) (reads : 
 
 -- a row begins with its key
 abbrev Starts : List ℕ → Built → Type 0
-Starts key isStuck = Unit {0}
+Starts key is_stuck = Unit {0}
 Starts key is_spent = Unit {0}
 Starts key (built row cs) = take (length key) row ≡ key
 
@@ -142,7 +142,7 @@ module _ (bindings : Bindings) (i : ℕ) (key : List ℕ) where
   hand_starts row cs c (some p) h = starts_more row p.0 h
 
   write_starts : (v : syntax.WriteVal) (r : Built) → Starts key r → Starts key (write bindings i v r)
-  write_starts v isStuck h = tt
+  write_starts v is_stuck h = tt
   write_starts v is_spent h = tt
   write_starts (syntax.Entry e) (built row cs) h = push_starts row cs (value_of bindings i e) h
   write_starts (syntax.IncCounter c) (built row cs) h = hand_starts row cs c (draw (get_or cs c no_counter)) h

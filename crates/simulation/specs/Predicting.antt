@@ -10,7 +10,7 @@ use Rattle.model.specs.Book.Syntax.{Counter, width}
 use Rattle.model.specs.Book.Contents.{table_count}
 use Rattle.model.specs.Book.Decode as decode
 use Rattle.model.specs.Machine.State.{State, Site, Record, Bindings, Env, stuck, spent, full, stop, note, reads, with_counters, logged, if_room, log_words}
-use Rattle.model.specs.Machine.Values.{Built, isStuck, is_spent, built, build, find, is_row, predicted_rows}
+use Rattle.model.specs.Machine.Values.{Built, is_stuck, is_spent, built, build, find, is_row, predicted_rows}
 use Rattle.model.specs.Machine.Steps.{table_of, row_start, stage_new, predict_row}
 use Rattle.model.specs.Laws.Logic.{All-append, All-at, only_yes, eq_eq_list}
 use Rattle.model.specs.Laws.Lists.{length_tab}
@@ -139,7 +139,7 @@ module _ (w : List ℕ) (L : ℕ) (short : L ≤ 16384) (s : State) (x : Executi
       none_yet = rw (table_keys w t table.known, ← front_is) (get_free home_of home_below (keys_of w) index s.log is.index_ok L is.fits t a.vals slot e)
 
       -- it was built, and is logged if it has room
-      module _ (r : List ℕ) (cs : List Counter) (n : ℕ) (n-is : n ≡ width_of w t) (starts : take (keys_of w t) r ≡ key) (h : RowIs w n r cs B) where
+      module _ (r : List ℕ) (cs : List Counter) (n : ℕ) (n_is : n ≡ width_of w t) (starts : take (keys_of w t) r ≡ key) (h : RowIs w n r cs B) where
         abbrev new : Record
         new = record { site = o; kind = 2; table = t; words = r }
 
@@ -174,11 +174,11 @@ module _ (w : List ℕ) (L : ℕ) (short : L ≤ 16384) (s : State) (x : Executi
             next = h.next;
             counted = h.counted;
             flag = is.flag;
-            sized = All-append (Sized w) s.log (new ∷ []) is.sized (record { table = table.known; size = h.row_is.size ∙ n-is ∙ sym (table_width w t table.known) }, tt);
+            sized = All-append (Sized w) s.log (new ∷ []) is.sized (record { table = table.known; size = h.row_is.size ∙ n_is ∙ sym (table_width w t table.known) }, tt);
           };
           made_is = refl;
           goes_on_lem = on;
-          size = h.row_is.size ∙ n-is;
+          size = h.row_is.size ∙ n_is;
           row_is = only_one;
         }))
           where
@@ -197,16 +197,16 @@ module _ (w : List ℕ) (L : ℕ) (short : L ≤ 16384) (s : State) (x : Executi
       G = flat.whole t slot B held
 
       came : (R : Built) → build b o.lane (writes_of w row.vals) (built key s.counters) ≡ R → (n : ℕ) → n ≡ width_of w t → BuildIs w n R B → P (stage_new E o t R s (k true)) G
-      came isStuck q n n-is h = c.sticking (stop stuck s) G refl
-      came is_spent q n n-is h = subst (λ (u : Bool). P (stop spent s) (cond u (record { got = flat.stopped_by Spent x; log = log; index = index }) (flat.logged slot x.used (staged 2 t B.row.vals B.row.count given) index))) (sym h) (c.stopping (stop spent s) (record { got = flat.stopped_by Spent x; log = log; index = index }) refl refl refl)
-      came (built r cs) q n n-is h = whole_is r cs n n-is (ap (λ (u : ℕ). take u r) (sym key_is.size) ∙ starts_with b o.lane key (writes_of w row.vals) s.counters cs r q) h
+      came is_stuck q n n_is h = c.sticking (stop stuck s) G refl
+      came is_spent q n n_is h = subst (λ (u : Bool). P (stop spent s) (cond u (record { got = flat.stopped_by Spent x; log = log; index = index }) (flat.logged slot x.used (staged 2 t B.row.vals B.row.count given) index))) (sym h) (c.stopping (stop spent s) (record { got = flat.stopped_by Spent x; log = log; index = index }) refl refl refl)
+      came (built r cs) q n n_is h = whole_is r cs n n_is (ap (λ (u : ℕ). take u r) (sym key_is.size) ∙ starts_with b o.lane key (writes_of w row.vals) s.counters cs r q) h
 
       begun : (r : Built) → row_start E t key (writes_of w row.vals) s.counters ≡ some r → P (stage_new E o t (build b o.lane (writes_of w row.vals) r) s (k true)) G
       begun r q =
           let y = only_yes (eqb (length key + length (writes_of w row.vals)) (width (table_of E t))) (built key s.counters) r q in
-          let n-is : keys_of w t + row.vals.count ≡ width_of w t = omega (arith, eqb-true (length key + length (writes_of w row.vals)) (width (table_of E t)) y.0, key_is.size, length_tab (λ k. decode.write_at w (row.vals.at + 2 * k)) row.vals.count, table_width w t table.known) in
+          let n_is : keys_of w t + row.vals.count ≡ width_of w t = omega (arith, eqb-true (length key + length (writes_of w row.vals)) (width (table_of E t)) y.0, key_is.size, length_tab (λ k. decode.write_at w (row.vals.at + 2 * k)) row.vals.count, table_width w t table.known) in
           subst (λ (r : Built). P (stage_new E o t (build b o.lane (writes_of w row.vals) r) s (k true)) G) y.1
-          (came (build b o.lane (writes_of w row.vals) (built key s.counters)) refl (keys_of w t + row.vals.count) n-is
+          (came (build b o.lane (writes_of w row.vals) (built key s.counters)) refl (keys_of w t + row.vals.count) n_is
           (built_is w b o.lane m reads_as row.vals.at row.vals.count (keys_of w t) (omega (arith, table.few)) ok key s.counters a x.counters (record { row_is = key_is; next = is.next; counted = is.counted; unspent = refl })))
 
       free : P (predict_row E o b t key (writes_of w row.vals) s k) (flat.by_slot w m o.lane row a held (Free slot))

@@ -137,45 +137,45 @@ not_going Full t e q = rw q
 -- ## A pass over the lanes, turn by turn in both
 
 -- f is the machine's turn and g the code's; lane i has a turn where who i says so
-pub record Pass {C : Type 0} (stopOf : C → Stop) (has : State → ℕ → Bool) (f : ℕ → State → State) (g : ℕ → C → C) (R : ℕ → State → C → Type 0) (who : ℕ → Bool) (n : ℕ) (s₀ : State) : Type 0 where
+pub record Pass {C : Type 0} (stop_of : C → Stop) (has : State → ℕ → Bool) (f : ℕ → State → State) (g : ℕ → C → C) (R : ℕ → State → C → Type 0) (who : ℕ → Bool) (n : ℕ) (s₀ : State) : Type 0 where
   pub quiet : (s : State) (i : ℕ) → is_going s.status ≡ false → has s i ≡ false
   pub same : (i : ℕ) (s : State) (c : C) → i < n → s.status ≡ going → R i s c → has s i ≡ who i
   pub past : (i : ℕ) → n ≤ i → who i ≡ false
-  pub halted : (i : ℕ) (c : C) → goes_on (stopOf c) ≡ false → g i c ≡ c
+  pub halted : (i : ℕ) (c : C) → goes_on (stop_of c) ≡ false → g i c ≡ c
   pub idle : (i : ℕ) (c : C) → who i ≡ false → g i c ≡ c
   pub kept : (i : ℕ) (s : State) (c : C) → R i s c → s.answers ≡ s₀.answers
   pub skip : (i : ℕ) (s : State) (c : C) → i < n → who i ≡ false → R i s c → R (suc i) s c
-  pub turn : (i : ℕ) (s : State) (c : C) → i < n → who i ≡ true → s.status ≡ going → stopOf c ≡ Going → R i s c → Follows s (f i s) (stopOf (g i c)) (R (suc i) (f i s) (g i c))
+  pub turn : (i : ℕ) (s : State) (c : C) → i < n → who i ≡ true → s.status ≡ going → stop_of c ≡ Going → R i s c → Follows s (f i s) (stop_of (g i c)) (R (suc i) (f i s) (g i c))
 
-module _ {C : Type 0} (stopOf : C → Stop) (has : State → ℕ → Bool) (f : ℕ → State → State) (g : ℕ → C → C) (R : ℕ → State → C → Type 0) (who : ℕ → Bool) (n : ℕ) (s₀ : State) (p : Pass stopOf has f g R who n s₀) (c₀ : C)
-    (start : s₀.status ≡ going) (on : stopOf c₀ ≡ Going) (begin : R 0 s₀ c₀) where
+module _ {C : Type 0} (stop_of : C → Stop) (has : State → ℕ → Bool) (f : ℕ → State → State) (g : ℕ → C → C) (R : ℕ → State → C → Type 0) (who : ℕ → Bool) (n : ℕ) (s₀ : State) (p : Pass stop_of has f g R who n s₀) (c₀ : C)
+    (start : s₀.status ≡ going) (on : stop_of c₀ ≡ Going) (begin : R 0 s₀ c₀) where
   abbrev ran : ℕ → State
   ran i = iter (λ i s. when (has s i) (f i) s) i s₀
 
   abbrev did : ℕ → C
   did i = iter g i c₀
 
-  mid : (i : ℕ) → i ≤ n → Follows s₀ (ran i) (stopOf (did i)) (R i (ran i) (did i))
+  mid : (i : ℕ) → i ≤ n → Follows s₀ (ran i) (stop_of (did i)) (R i (ran i) (did i))
   mid zero h = goes start on begin
   mid (suc i) h = by (mid i (omega arith))
     where
-      turned : (b : Bool) → who i ≡ b → (ran i).status ≡ going → stopOf (did i) ≡ Going → R i (ran i) (did i) → Follows s₀ (when b (f i) (ran i)) (stopOf (g i (did i))) (R (suc i) (when b (f i) (ran i)) (g i (did i)))
+      turned : (b : Bool) → who i ≡ b → (ran i).status ≡ going → stop_of (did i) ≡ Going → R i (ran i) (did i) → Follows s₀ (when b (f i) (ran i)) (stop_of (g i (did i))) (R (suc i) (when b (f i) (ran i)) (g i (did i)))
       turned true e a b r = chain (p.turn i (ran i) (did i) (omega arith) e a b r)
         where
-          chain : Follows (ran i) (f i (ran i)) (stopOf (g i (did i))) (R (suc i) (f i (ran i)) (g i (did i))) → Follows s₀ (f i (ran i)) (stopOf (g i (did i))) (R (suc i) (f i (ran i)) (g i (did i)))
+          chain : Follows (ran i) (f i (ran i)) (stop_of (g i (did i))) (R (suc i) (f i (ran i)) (g i (did i))) → Follows s₀ (f i (ran i)) (stop_of (g i (did i))) (R (suc i) (f i (ran i)) (g i (did i)))
           chain (sticks x) = sticks x
           chain (stops x y z) = stops x y (z ∙ p.kept i (ran i) (did i) r)
           chain (goes x y z) = goes x y z
-      turned false e a b r = subst (λ c. Follows s₀ (ran i) (stopOf c) (R (suc i) (ran i) c)) (sym (p.idle i (did i) e)) (goes a b (p.skip i (ran i) (did i) (omega arith) e r))
+      turned false e a b r = subst (λ c. Follows s₀ (ran i) (stop_of c) (R (suc i) (ran i) c)) (sym (p.idle i (did i) e)) (goes a b (p.skip i (ran i) (did i) (omega arith) e r))
 
-      by : Follows s₀ (ran i) (stopOf (did i)) (R i (ran i) (did i)) → Follows s₀ (ran (suc i)) (stopOf (did (suc i))) (R (suc i) (ran (suc i)) (did (suc i)))
+      by : Follows s₀ (ran i) (stop_of (did i)) (R i (ran i) (did i)) → Follows s₀ (ran (suc i)) (stop_of (did (suc i))) (R (suc i) (ran (suc i)) (did (suc i)))
       by (sticks x) = let z : has (ran i) i ≡ false = p.quiet (ran i) i (rw x) in sticks (ap (λ (s : State). s.status) (when_F (has (ran i) i) (f i) (ran i) z) ∙ x)
       by (stops x y z) =
-          let q : has (ran i) i ≡ false = p.quiet (ran i) i (not_going (stopOf (did i)) (ran i).status x y) in
+          let q : has (ran i) i ≡ false = p.quiet (ran i) i (not_going (stop_of (did i)) (ran i).status x y) in
           let e = when_F (has (ran i) i) (f i) (ran i) q in
           let k = p.halted i (did i) x in
-          stops (ap (λ (c : C). goes_on (stopOf c)) k ∙ x) (ap (λ (s : State). s.status) e ∙ y ∙ ap (λ (c : C). status_of (stopOf c)) (sym k)) (ap (λ (s : State). s.answers) e ∙ z)
-      by (goes x y r) = subst (λ b. Follows s₀ (when b (f i) (ran i)) (stopOf (g i (did i))) (R (suc i) (when b (f i) (ran i)) (g i (did i)))) (sym (p.same i (ran i) (did i) (omega arith) x r)) (turned (who i) refl x y r)
+          stops (ap (λ (c : C). goes_on (stop_of c)) k ∙ x) (ap (λ (s : State). s.status) e ∙ y ∙ ap (λ (c : C). status_of (stop_of c)) (sym k)) (ap (λ (s : State). s.answers) e ∙ z)
+      by (goes x y r) = subst (λ b. Follows s₀ (when b (f i) (ran i)) (stop_of (g i (did i))) (R (suc i) (when b (f i) (ran i)) (g i (did i)))) (sym (p.same i (ran i) (did i) (omega arith) x r)) (turned (who i) refl x y r)
 
-  pub pass_ends : n ≤ 256 → Follows s₀ (ran n) (stopOf (did 256)) (R n (ran n) (did 256))
-  pass_ends h = subst (λ c. Follows s₀ (ran n) (stopOf c) (R n (ran n) c)) (sym (iter_idle g n 256 c₀ h (λ i c l. p.idle i c (p.past i l)))) (mid n (omega arith))
+  pub pass_ends : n ≤ 256 → Follows s₀ (ran n) (stop_of (did 256)) (R n (ran n) (did 256))
+  pass_ends h = subst (λ c. Follows s₀ (ran n) (stop_of c) (R n (ran n) c)) (sym (iter_idle g n 256 c₀ h (λ i c l. p.idle i c (p.past i l)))) (mid n (omega arith))

@@ -26,7 +26,7 @@ use Rattle.rules.specs.RuleLaws.{at_tab}
 use Rattle.rules.specs.StepLaws.{step_batch, step_prediction}
 use Rattle.execution.specs.declared.Stop.TheVariants.{Going}
 use Rattle.execution.specs.declared.ExecutionState.{ExecutionState}
-use Rattle.execution.specs.Execution.{goes_on, is_going as codeGoes}
+use Rattle.execution.specs.Execution.{goes_on, is_going as code_goes}
 use Rattle.predict.specs.Predict.{Gotten}
 use Rattle.action.specs.Run.{Running}
 use Rattle.step.specs.Steps.{IsStep, ran_batch, asked_row}
@@ -238,9 +238,9 @@ module _ (w : List ℕ) (h : Readable w) (L : ℕ) (short : L ≤ 16384) (no_ste
         by (sticking e) = sticking (ap (λ (t : State). t.status) (when_F (is_going s.status) act s (ap is_going e)) ∙ e)
         by (stopped x y z) =
             let e : when (is_going s.status) act s ≡ s = when_F (is_going s.status) act s (not_going a.progress.state.stop s.status x y) in
-            let c : ran_next w a ≡ a = when_F (codeGoes a.progress.state) (ran_step w (first_step w + a.progress.done)) a x in
+            let c : ran_next w a ≡ a = when_F (code_goes a.progress.state) (ran_step w (first_step w + a.progress.done)) a x in
             subst (λ (t : State). Runs w L (suc n) t (ran_next w a)) (sym e) (subst (λ (b : Ran). Runs w L (suc n) s b) (sym c) (stopped x y z))
         by (going_on x y r) =
             let e : when (is_going s.status) act s ≡ step (machine w L) n (read.step w n) s = when_T (is_going s.status) act s (ap is_going x) ∙ acts in
-            let c : ran_next w a ≡ ran_step w (first_step w + n) a = when_T (codeGoes a.progress.state) (ran_step w (first_step w + a.progress.done)) a (ap goes_on y) ∙ ap (λ (k : ℕ). ran_step w (first_step w + k) a) r.done in
+            let c : ran_next w a ≡ ran_step w (first_step w + n) a = when_T (code_goes a.progress.state) (ran_step w (first_step w + a.progress.done)) a (ap goes_on y) ∙ ap (λ (k : ℕ). ran_step w (first_step w + k) a) r.done in
             subst (λ (t : State). Runs w L (suc n) t (ran_next w a)) (sym e) (subst (λ (b : Ran). Runs w L (suc n) (step (machine w L) n (read.step w n) s) b) (sym c) (step_turn n (omega arith) s a x y r))

@@ -12,7 +12,7 @@ use Rattle.model.specs.Book.Syntax.{Counter}
 use Rattle.model.specs.Book.Contents.{table_count}
 use Rattle.model.specs.Machine.State.{State, Site, Record, record_size, going, stop, note, reads, change, if_room, log_words}
 use Rattle.model.specs.Machine.Values.{value_of, list_of}
-use Rattle.model.specs.Machine.Steps.{here, is_live, lanes, table_of, read_pair, stage_list}
+use Rattle.model.specs.Machine.Steps.{here, is_live, lanes, table_of, read_pair_lem, stage_list}
 use Rattle.model.specs.Answer.{record_words}
 use Rattle.model.specs.Laws.Logic.{All-append}
 use Rattle.model.specs.Laws.Lists.{length_tab, get_or_tab}
@@ -39,7 +39,7 @@ use Rattle.execution.specs.declared.Change.{Change}
 use Rattle.execution.specs.declared.Change.TheVariants.{Insert, Remove}
 use Rattle.execution.specs.declared.Stop.TheVariants.{Going}
 use Rattle.execution.specs.declared.ExecutionState.{ExecutionState}
-use Rattle.execution.specs.Execution.{goes_on, is_going as codeGoes, changing, Logged, after_append, staged, record_kind, staged_lane, staged_lanes}
+use Rattle.execution.specs.Execution.{goes_on, is_going as code_goes, changing, Logged, after_append, staged, record_kind, staged_lane, staged_lanes}
 use Rattle.simulation.specs.Represents.{machine, LogIs, Follows, sticks, stops, goes, ListIs, list_read, front_list, pass_ends}
 
 -- a state that has the lanes of another
@@ -120,7 +120,7 @@ module _ (w : List ℕ) (L : ℕ) where
         read ws e =
             let is : ListIs ws n (row o.lane) = list_read w s₀.bindings o.lane h l n ws few named (rw m.kept.bindings at e) in
             let code : staged_lane what t (row o.lane) true c ≡ record { state = changing (after_append (cond (leb (log_words (s.log ++ (new o ws ∷ []))) L) (Used (log_words (s.log ++ (new o ws ∷ [])))) NoRoom) c.state); log = cond (leb (log_words (s.log ++ (new o ws ∷ []))) L) (log_of (s.log ++ (new o ws ∷ [])) L) (log_of s.log L) } =
-            when_T (codeGoes c.state) _ c (ap goes_on b) ∙ ap (λ (g : Logged). record { state = changing g.state; log = g.log }) (stage_is s.log s.counters s.changed c.state c.log index m.is (new o ws) (row o.lane).vals (row o.lane).count (record_is (new o ws) (row o.lane) n is)) in
+            when_T (code_goes c.state) _ c (ap goes_on b) ∙ ap (λ (g : Logged). record { state = changing g.state; log = g.log }) (stage_is s.log s.counters s.changed c.state c.log index m.is (new o ws) (row o.lane).vals (row o.lane).count (record_is (new o ws) (row o.lane) n is)) in
             let s' : State = if_room (leb (log_words (s.log ++ (new o ws ∷ []))) L) (new o ws) (change (note (reads o ws) s)) (λ s'. s') in
             subst (λ (g : Logged). Follows s s' g.state.stop (Staged s' g)) (sym code) (staged_turn o ws s c a b m is (leb (log_words (s.log ++ (new o ws ∷ []))) L) refl)
 
@@ -128,7 +128,7 @@ module _ (w : List ℕ) (L : ℕ) where
 
     halted : (i : ℕ) (b : Bool) (c : Logged) → goes_on c.state.stop ≡ false → staged_lane what t (row i) b c ≡ c
     unfolding staged_lane
-    halted i b c e = when_F (b && codeGoes c.state) _ c (by b (codeGoes c.state) e)
+    halted i b c e = when_F (b && code_goes c.state) _ c (by b (code_goes c.state) e)
       where
         by : (b g : Bool) → g ≡ false → b && g ≡ false
         by true g e = e
@@ -181,10 +181,10 @@ module _ (w : List ℕ) (L : ℕ) where
       no_who i e = elim (dec_lt i 256) [ yes h ↦ is_who i h ∙ rw e | no h ↦ get_or-eq_default who false {n = i} (omega (arith, length_tab (λ i. get_or (padded s₀.live) i false && equal i) 256)) ]
 
       abbrev turn : ℕ → ℕ → ℕ → State → State
-      turn k j i = read_pair (here k j i) (entry_of a) (entry_of b) λ x y. when (eqb x y) (stage_list (machine w L) (here k j i) kind t n (entries_of w l))
+      turn k j i = read_pair_lem (here k j i) (entry_of a) (entry_of b) λ x y. when (eqb x y) (stage_list (machine w L) (here k j i) kind t n (entries_of w l))
 
       pair_turn : (k j i : ℕ) (s : State) (c : Logged) → i < 256 → s.status ≡ going → c.state.stop ≡ Going → Staged s c → Follows s (turn k j i s) (staged_lane what t (row i) (equal i) c).state.stop (Staged (turn k j i s) (staged_lane what t (row i) (equal i) c))
-      unfolding read_pair holds
+      unfolding read_pair_lem holds
       pair_turn k j i s c h e o m = need_ind P (value_of s.bindings i (entry_of a)) s _ (sticks refl) (λ x p. need_ind P (value_of s.bindings i (entry_of b)) s _ (sticks refl) (λ y q. both x y (is a na x p) (is b nb y q)))
         where
           P : State → Type 0

@@ -90,10 +90,10 @@ pub data InBody : Type 0 where
   repeat : (row : ℕ) → InBody
 
 pub data InRule : Type 0 where
-  size unbound heldOut column : InRule
+  size unbound held_out column : InRule
 
 pub data InRun : Type 0 where
-  logFull counterSpent : InRun
+  log_full counter_spent : InRun
 
 pub data Fault : Type 0 where
   lengths bytes : Fault
@@ -102,7 +102,7 @@ pub data Fault : Type 0 where
   rule : (r j : ℕ) → InRule → Fault
   unfit : (k : ℕ) → Fault
   in_run : (k : ℕ) → InRun → Fault
-  tablesFull answerFull : Fault
+  tables_full answer_full : Fault
 
 -- its number in the table
 abbrev pub number_of : Fault → ℕ
@@ -115,13 +115,13 @@ number_of (body i (mark p)) = 4
 number_of (body i (repeat row)) = 5
 number_of (rule r j size) = 8
 number_of (rule r j unbound) = 7
-number_of (rule r j heldOut) = 10
+number_of (rule r j held_out) = 10
 number_of (rule r j column) = 9
 number_of (unfit k) = 11
-number_of (in_run k logFull) = 12
-number_of (in_run k counterSpent) = 13
-number_of tablesFull = 15
-number_of answerFull = 16
+number_of (in_run k log_full) = 12
+number_of (in_run k counter_spent) = 13
+number_of tables_full = 15
+number_of answer_full = 16
 
 -- its place: of an entry or a body its number in the contents, of the rest the first of its words in the book
 abbrev pub place_of : List ℕ → Fault → ℕ
@@ -137,8 +137,8 @@ place_of w (body i (repeat row)) = row_place w (first_of w i) row
 place_of w (rule r j c) = instr_place w (rule_first w r) j
 place_of w (unfit k) = first_step w + k
 place_of w (in_run k c) = first_step w + k
-place_of w tablesFull = 0
-place_of w answerFull = 0
+place_of w tables_full = 0
+place_of w answer_full = 0
 
 -- when it is at fault
 abbrev pub AtContents : List ℕ → InContents → Type 0
@@ -157,13 +157,13 @@ AtBody w i (repeat row) =
 abbrev pub AtRule : List ℕ → (r j : ℕ) → InRule → Type 0
 AtRule w r j size = InstrAt w (λ R j ins. All Fits (sizes_of (tables w) arity ins) → ⊥) r j
 AtRule w r j unbound = InstrAt w (λ R j ins. All (IsKnown (Known R j)) (reads_of ins) → ⊥) r j
-AtRule w r j heldOut = InstrAt w (λ R j ins. All NotHeld (held_of ins) → ⊥) r j
+AtRule w r j held_out = InstrAt w (λ R j ins. All NotHeld (held_of ins) → ⊥) r j
 AtRule w r j column = InstrAt w (λ R j ins. All Below (columns_of (tables w) arity ins) → ⊥) r j
 
 -- the records of the steps before fit the log lent, and with those of step k they pass it; step k comes to a counter whose next would pass its limit, and the records until then fit
 abbrev pub AtRun : Lent → List ℕ → ℕ → InRun → Type 0
-AtRun l w k logFull = (log_words (after w k).log ≤ l.log) × (l.log < log_words (after w (suc k)).log)
-AtRun l w k counterSpent = (log_words (after w (suc k)).log ≤ l.log) × ((after w (suc k)).status ≡ spent)
+AtRun l w k log_full = (log_words (after w k).log ≤ l.log) × (l.log < log_words (after w (suc k)).log)
+AtRun l w k counter_spent = (log_words (after w (suc k)).log ≤ l.log) × ((after w (suc k)).status ≡ spent)
 
 abbrev pub AtFault : Lent → List ℕ → Fault → Type 0
 AtFault l book lengths = LentOk l → ⊥
@@ -173,8 +173,8 @@ AtFault l book (body i c) = (i < count (words_of book)) × AtBody (words_of book
 AtFault l book (rule r j c) = AtRule (words_of book) r j c
 AtFault l book (unfit k) = (k < step_count (words_of book)) × (StepFits (tables (words_of book)) (rules (words_of book)) (step (words_of book) k) → ⊥)
 AtFault l book (in_run k c) = (k < step_count (words_of book)) × ((after (words_of book) k).status ≡ going) × AtRun l (words_of book) k c
-AtFault l book tablesFull = l.tables < row_words (final (words_of book))
-AtFault l book answerFull = l.answer < length (answer (final (words_of book)) (after (words_of book) (step_count (words_of book))))
+AtFault l book tables_full = l.tables < row_words (final (words_of book))
+AtFault l book answer_full = l.answer < length (answer (final (words_of book)) (after (words_of book) (step_count (words_of book))))
 
 -- ## Which fault comes first: by the stage at which it is looked for, and within a stage by what stands first in the book
 
@@ -186,8 +186,8 @@ stage_of (body i c) = 3
 stage_of (rule r j c) = 4
 stage_of (unfit k) = 5
 stage_of (in_run k c) = 6
-stage_of tablesFull = 7
-stage_of answerFull = 8
+stage_of tables_full = 7
+stage_of answer_full = 8
 
 abbrev pub contents_order : InContents → List ℕ
 contents_order counting = 0 ∷ []
@@ -203,13 +203,13 @@ body_order (repeat row) = 3 ∷ row ∷ []
 abbrev pub rule_order : InRule → List ℕ
 rule_order size = 0 ∷ []
 rule_order unbound = 1 ∷ []
-rule_order heldOut = 2 ∷ []
+rule_order held_out = 2 ∷ []
 rule_order column = 3 ∷ []
 
 -- only one of them can hold of a step
 abbrev pub run_order : InRun → List ℕ
-run_order logFull = 0 ∷ []
-run_order counterSpent = 1 ∷ []
+run_order log_full = 0 ∷ []
+run_order counter_spent = 1 ∷ []
 
 abbrev pub within : Fault → List ℕ
 within lengths = []
@@ -219,8 +219,8 @@ within (body i c) = i ∷ body_order c
 within (rule r j c) = r ∷ j ∷ rule_order c
 within (unfit k) = k ∷ []
 within (in_run k c) = k ∷ run_order c
-within tablesFull = []
-within answerFull = []
+within tables_full = []
+within answer_full = []
 
 abbrev pub Before : List ℕ → List ℕ → Type 0
 Before [] [] = ⊥

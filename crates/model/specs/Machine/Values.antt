@@ -55,11 +55,11 @@ predicted_rows k t key (r ∷ rs) = keep_if (is_row k t key r) r.words (predicte
 -- ## A new row: its key, and one word more for each write value in turn
 
 pub data Built : Type 0 where
-  isStuck is_spent : Built
+  is_stuck is_spent : Built
   built : (row : List ℕ) (counters : List Counter) → Built
 
 abbrev pub push : List ℕ → List Counter → Option ℕ → Built
-push row cs none = isStuck
+push row cs none = is_stuck
 push row cs (some w) = built (row ++ (w ∷ [])) cs
 
 -- the number that a counter gives, and the counter with the number above it, which must not pass the limit
@@ -71,7 +71,7 @@ hand_out row cs c none = is_spent
 hand_out row cs c (some p) = built (row ++ (p.0 ∷ [])) (set cs c p.1)
 
 abbrev pub write : Bindings → ℕ → WriteVal → Built → Built
-write b i v isStuck = isStuck
+write b i v is_stuck = is_stuck
 write b i v is_spent = is_spent
 write b i (Entry e) (built row cs) = push row cs (value_of b i e)
 write b i (IncCounter c) (built row cs) = hand_out row cs c (draw (get_or cs c no_counter))

@@ -7,7 +7,7 @@ use Rattle.std.proofs.Math.ListN.{get_elem?}
 use Rattle.model.specs.Basics.{found, only, eq_list, All}
 use Rattle.model.specs.Book.Syntax.{Clean, Counter, no_counter, limit, QueryEntry, Var, Const, WriteVal, Entry, IncCounter, CurrentVal}
 use Rattle.model.specs.Machine.State.{Bindings}
-use Rattle.model.specs.Machine.Values.{hold, lane_of, value_of, values_of, list_of, find, Built, isStuck, is_spent, built, push, draw, hand_out, write, build}
+use Rattle.model.specs.Machine.Values.{hold, lane_of, value_of, values_of, list_of, find, Built, is_stuck, is_spent, built, push, draw, hand_out, write, build}
 use Rattle.model.specs.Check.{IsKnown, NotHeld, Below, entries_of, currents_of, against}
 use Rattle.model.specs.Laws.Supposed.{CleanConst, CounterOk}
 use Rattle.model.specs.Laws.Logic.{some_inj, none_some, only_T, only_some, All-append, All-at, All-get_or, All-set, at_length}
@@ -73,7 +73,7 @@ cell r c h lt = let p = at_length r c lt in (p.0, p.1, All-at Clean r c h p.1)
 -- ## A row is built
 
 abbrev pub BuiltOk : List ℕ → ℕ → Built → Type 0
-BuiltOk key n isStuck = ⊥
+BuiltOk key n is_stuck = ⊥
 BuiltOk key n is_spent = Unit {0}
 BuiltOk key n (built row cs) = (length row ≡ n) × All Clean row × All CounterOk cs × (rest : List ℕ) × (row ≡ key ++ rest)
 
@@ -101,7 +101,7 @@ hand_ok key row cs n c (some p) d h =
 module _ (K : ℕ → Type 0) (b : Bindings) (l : List Bool) (rd : Readable K b l) (i : ℕ) (lv : T (get_or l i false)) (key : List ℕ) where
   write_ok : (v : WriteVal) (n : ℕ) (r : Built) → All (IsKnown K) (entries_of (v ∷ [])) → All CleanConst (entries_of (v ∷ [])) → All Below (currents_of n (v ∷ []))
       → BuiltOk key n r → BuiltOk key (suc n) (write b i v r)
-  write_ok v n isStuck k c cu h = absurd h
+  write_ok v n is_stuck k c cu h = absurd h
   write_ok v n is_spent k c cu h = tt
   write_ok (Entry e) n (built row cs) k c cu h =
       let r = entry_read K b l rd i lv e k.0 c.0 in

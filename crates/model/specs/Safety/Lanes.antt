@@ -11,8 +11,8 @@ use Rattle.std.proofs.Math.ListN.{length, get_elem?}
 use Rattle.model.specs.Basics.{first, keep_if, All}
 use Rattle.model.specs.Book.Syntax.{Clean, QueryEntry, WriteVal, width, table_at}
 use Rattle.model.specs.Machine.State.{State, Record, record_size, reads, took, asks, stuck, spent, full, is_going, Bindings, Env, stop, note, give, lose, with_counters, change, logged, need, log_words}
-use Rattle.model.specs.Machine.Values.{hold, find, is_row, predicted_rows, Built, isStuck, is_spent, built, build}
-use Rattle.model.specs.Machine.Steps.{here, table_of, stage_new, predict_row, take_column, lookup, invoke, take_default, serve_missed, stage_list, read_pair, any_ne, assert_any_ne}
+use Rattle.model.specs.Machine.Values.{hold, find, is_row, predicted_rows, Built, is_stuck, is_spent, built, build}
+use Rattle.model.specs.Machine.Steps.{here, table_of, stage_new, predict_row, take_column, lookup, invoke, take_default, serve_missed, stage_list, read_pair_lem, any_ne, assert_any_ne}
 use Rattle.model.specs.Check.{IsKnown, Below, entries_of, currents_of}
 use Rattle.model.specs.Claims.Demand3.{Within}
 use Rattle.model.specs.Laws.Supposed.{TableOk, CleanConst}
@@ -177,8 +177,8 @@ module _ (E : Env) (K : ℕ → Type 0) (k j : ℕ) where
           (give_done q s (note (reads (here k j i) (p.0 ∷ [])) s') (reads_inv E K k j q s' v' (here k j i) (p.0 ∷ []) (p.2, tt)) (record { live = m.live; out = m.out }) i p.0 p.2)
 
       pub two_ok : (P : State → Type 0) (l r : QueryEntry) (kk : ℕ → ℕ → State → State) → All (IsKnown K) (l ∷ r ∷ []) → All CleanConst (l ∷ r ∷ [])
-          → ((a b : ℕ) → Then (λ s'. P (kk a b s'))) → P (read_pair (here k j i) l r kk s)
-      unfolding read_pair
+          → ((a b : ℕ) → Then (λ s'. P (kk a b s'))) → P (read_pair_lem (here k j i) l r kk s)
+      unfolding read_pair_lem
       two_ok P l r kk kn cn h =
           let p = entry_read K s.bindings s.live (v.readable g) i lv l kn.0 cn.0 in
           let p' = entry_read K s.bindings s.live (v.readable g) i lv r kn.1.0 cn.1.0 in
@@ -219,7 +219,7 @@ module _ (E : Env) (K : ℕ → Type 0) (k j : ℕ) where
         → ((r : List ℕ) (s' : State) → Inv E K k j (suc i) s' → Same s s' → All Clean r → length r ≡ width (table_of E t) → rows_of E t key s'.log ≡ r ∷ [] → P (kk r s'))
         → ((s' : State) → Inv E K k j (suc i) s' → Same s s' → (T (is_going s'.status) → ⊥) → P s')
         → P (stage_new E (here k j i) t B s kk)
-    made_ok P t key isStuck kk ok len new go end = absurd ok
+    made_ok P t key is_stuck kk ok len new go end = absurd ok
     made_ok P t key is_spent kk ok len new go end = end (stop spent s) (weaken E K k j i (stop spent s) (stop_inv E K k j i s v spent spent≢stuck (λ g. g))) (record { live = refl; out = refl }) (λ g. g)
     made_ok P t key (built r cs) kk ok len new go end =
         let s₁ : State = note (reads (here k j i) r) (with_counters cs s) in

@@ -53,10 +53,10 @@ module _ (E : Env) where
       not_and true b c p = absurd p
       not_and false b c p = tt
 
-  module _ (log : List Record) (r : Record) (t₀ : ℕ) (key₀ : List ℕ) (isKind : r.kind ≡ 2) (is_table : r.table ≡ t₀)
+  module _ (log : List Record) (r : Record) (t₀ : ℕ) (key₀ : List ℕ) (is_kind : r.kind ≡ 2) (is_table : r.table ≡ t₀)
       (is_key : take (table_at E.tables t₀).keys r.words ≡ key₀) (new : rows_of t₀ key₀ log ≡ []) where
     its_row : T (is_row (table_at E.tables t₀).keys t₀ key₀ r)
-    its_row = T_and (eqb r.kind 2 && eqb r.table t₀) _ (T_and (eqb r.kind 2) _ (rw isKind tt) (rw is_table (eqb_refl t₀))) (rw is_key (eq_list_refl key₀))
+    its_row = T_and (eqb r.kind 2 && eqb r.table t₀) _ (T_and (eqb r.kind 2) _ (rw is_kind tt) (rw is_table (eqb_refl t₀))) (rw is_key (eq_list_refl key₀))
 
     pub new_row : rows_of t₀ key₀ (log ++ (r ∷ [])) ≡ r.words ∷ []
     new_row = a_row log r t₀ key₀ its_row new
