@@ -1,4 +1,6 @@
 // The interpreter: the instructions of a rule act on the lanes of a batch, one after the other. An index of the book's rows is lent as `chains`, or an empty one for none.
+#![tactic(auto)]
+
 mod lookup;
 
 ghost use Rattle.std.specs.Prelude.{◌≡◌, ◌+◌, ◌≤◌, ◌<◌, length, get_or};
@@ -23,7 +25,7 @@ use lanes::{Ask, Test};
 use mask::Mask;
 
 // A batch as it runs: what its bindings keep beside the lent words, which lanes are live, and what the run keeps.
-#[derive(Drop)]
+#[derive(Clone, Copy)]
 pub struct Batch {
     pub bindings: Bindings,
     pub mask: Mask,

@@ -1,4 +1,6 @@
 // A book of bytes: refusal 1, and its words.
+#![tactic(auto)]
+
 ghost use Rattle.std.specs.Prelude.{◌≡◌, ◌++◌, ◌≤◌, length, drop};
 ghost use Rattle.model.specs.Book.Words.{bytes_refusal, words_of};
 ghost use Rattle.rules.specs.Rules.{verdict_of};

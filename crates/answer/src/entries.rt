@@ -7,7 +7,7 @@ ghost use Rattle.answer.specs.Layout.{step_kind, rows_length, shape_of, Small, b
 use ids::TableId;
 
 // How many tables, counters and steps there are, and the book's entry of the first step.
-#[derive(Drop)]
+#[derive(Clone, Copy)]
 pub struct Shape {
     pub tables: usize,
     pub counters: usize,
@@ -16,7 +16,7 @@ pub struct Shape {
 }
 
 // A body's kind, and how many words it has.
-#[derive(Drop)]
+#[derive(Clone, Copy)]
 pub struct Entry {
     pub kind: u32,
     pub length: usize,

@@ -1,4 +1,6 @@
 // The answer book: contents, then tables, counters, a body for each step in step order, and the log.
+#![tactic(auto)]
+
 mod bodies;
 mod entries;
 
@@ -12,14 +14,14 @@ use execution::ExecutionState;
 use step_bodies::put;
 
 // How many words the answer has; or it exceeds the words lent for it.
-#[derive(Drop)]
+#[derive(Clone, Copy)]
 pub enum Assembled {
     Words(usize),
     Over,
 }
 
 // The answer's bodies, how many words those of the steps have at the front, and the changed flag.
-#[derive(Drop)]
+#[derive(Clone, Copy)]
 struct Plan {
     shape: Shape,
     scratch: usize,

@@ -1,9 +1,11 @@
 // A short list of words by value: what a list of entries stands for in one lane, a key or a row.
+#![tactic(auto)]
+
 ghost use Rattle.std.specs.Prelude.{◌≡◌, ◌≤◌, ◌<◌};
 ghost use Rattle.args.specs.Args.{pushed, words_at};
 
 // `count` words, the first of 16.
-#[derive(Drop)]
+#[derive(Clone, Copy)]
 pub struct Args {
     pub vals: [u32; 16],
     pub count: usize,

@@ -1,4 +1,6 @@
 // The bindings of a batch: 32 columns of 256 lent words, variable v in lane i at 256 * v + i; and what is kept beside them.
+#![tactic(auto)]
+
 ghost use Rattle.std.specs.Prelude.{◌≡◌, ◌+◌, ◌*◌, ◌^◌, ◌≤◌, ◌<◌, length, get_or, take};
 ghost use Rattle.std.proofs.Math.Option.{some};
 ghost use Rattle.words.specs.Filled.{filled};
@@ -98,7 +100,7 @@ pub fn load(words: &[u32], at: usize, v: u32, lanes: usize, bindings: &mut [u32]
 }
 
 // What is kept beside the lent words: how many lanes there are, and which variables are bound.
-#[derive(Drop)]
+#[derive(Clone, Copy)]
 pub struct Bindings {
     pub matches: usize,
     pub bound: Bound,

@@ -1,4 +1,6 @@
 // The variables that are bound at a place of a rule.
+#![tactic(auto)]
+
 ghost use Rattle.std.specs.Prelude.{◌≡◌, ◌<◌};
 ghost use Rattle.std.proofs.Math.Option.{some};
 ghost use Rattle.instr.specs.Stands.{IsVariable, variable_of};
@@ -8,7 +10,7 @@ use ids::Variable;
 use instr::Dst;
 
 // Which of the 32 variables are bound.
-#[derive(Drop)]
+#[derive(Clone, Copy)]
 pub struct Bound {
     pub known: [bool; 32],
 }

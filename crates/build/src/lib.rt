@@ -1,4 +1,6 @@
 // A new row: its key, and one word more for each write value in turn. A counter that would pass its limit ends it.
+#![tactic(auto)]
+
 ghost use Rattle.std.specs.Prelude.{◌≡◌, ◌≤◌, get_or};
 ghost use Rattle.instr.specs.Stands.{Short};
 ghost use Rattle.build.specs.Build.{appended, handed, written, written_next, built};
@@ -9,7 +11,7 @@ use ids::{CounterId, Lane};
 use instr::{Entries, WriteVal};
 
 // A row as far as it is built, the counters after it, and whether one was spent.
-#[derive(Drop)]
+#[derive(Clone, Copy)]
 pub struct Building {
     pub row: Args,
     pub counters: Counters,

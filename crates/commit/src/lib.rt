@@ -1,4 +1,6 @@
 // The commit: after a run the log's records go into the tables. The rows that come of it are written into words that are lent for them: table 0's, then table 1's, and so on, without gaps.
+#![tactic(auto)]
+
 mod inserts;
 mod merge;
 mod records;
@@ -15,7 +17,7 @@ use crate::rows::Part;
 use ids::TableId;
 
 // How many rows each table has, and how many words they use in all; or a row had no room.
-#[derive(Drop)]
+#[derive(Clone, Copy)]
 pub struct Committed {
     pub counts: [u32; 16],
     pub used: usize,

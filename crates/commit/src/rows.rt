@@ -8,7 +8,7 @@ use crate::merge;
 use tables::{Found, TableInfo};
 
 // How many rows a table has, how many words are used up to their end, and the word at which they begin; or a row had no room. `from` is a u32 so that three bytes of padding follow `over`: seven are copied in two halves that overlap, and each copy would wait for the one before it.
-#[derive(Drop)]
+#[derive(Clone, Copy)]
 pub struct Part {
     pub count: usize,
     pub used: usize,

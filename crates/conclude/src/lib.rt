@@ -1,4 +1,6 @@
 // The end of a run: refusals 12 and 13 where it stopped; else the commit, refusal 15, the answer, and refusal 16.
+#![tactic(auto)]
+
 ghost use Rattle.std.specs.Prelude.{◌≡◌, ◌≤◌, length};
 ghost use Rattle.model.specs.Laws.Book.{Readable};
 ghost use Rattle.contents.specs.Contents.{ContentsOf};
@@ -10,7 +12,7 @@ use execution::Stop;
 use run::Progress;
 
 // Accepted, with how many words the answer has; or refused by a number of document 01's table, with a place.
-#[derive(Drop)]
+#[derive(Clone, Copy)]
 pub enum Outcome {
     Accepted(usize),
     Refused(u32, usize),

@@ -1,10 +1,12 @@
 // The contents of a book: refusal 2, and where each body stands.
+#![tactic(auto)]
+
 ghost use Rattle.std.specs.Prelude.{◌≡◌, ◌&&◌, ◌+◌, ◌*◌, ◌≤◌, ◌<◌, eqb, ltb, leb, length};
 ghost use Rattle.model.specs.Book.Contents as contents;
 ghost use Rattle.contents.specs.Contents.{refusal_of, ContentsOf};
 
 // What refusal 2 comes to: the contents pass, or the count, an entry or the book's end is at fault.
-#[derive(Drop)]
+#[derive(Clone, Copy)]
 pub enum Checked {
     Pass,
     Count,
@@ -13,7 +15,7 @@ pub enum Checked {
 }
 
 // How many of each a book has. Their entries stand in this order.
-#[derive(Drop)]
+#[derive(Clone, Copy)]
 pub struct Contents {
     pub tables: u32,
     pub counters: u32,

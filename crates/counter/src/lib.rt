@@ -1,15 +1,17 @@
 // Counters: each gives every number once, one after the other, until it is spent.
+#![tactic(auto)]
+
 ghost use Rattle.std.specs.Prelude.{◌≡◌, get_or, set};
 ghost use Rattle.model.specs.Machine.Values.{draw};
 ghost use Rattle.counter.specs.Counter.{drawn_of, after, raised, Hands};
 
-#[derive(Drop)]
+#[derive(Clone, Copy)]
 pub struct Counter {
     pub next: u32,
 }
 
 // What a counter hands out and how it goes on; or it is spent.
-#[derive(Drop)]
+#[derive(Clone, Copy)]
 pub enum Drawn {
     Next(u32, Counter),
     Spent,
@@ -51,13 +53,13 @@ pub fn inc_in_place(counter: &mut Counter) -> Drawn
 }
 
 // The counters of a book, 0 past the last.
-#[derive(Drop)]
+#[derive(Clone, Copy)]
 pub struct Counters {
     pub next: [u32; 16],
 }
 
 // What one of the counters hands out, and the counters after it.
-#[derive(Drop)]
+#[derive(Clone, Copy)]
 pub struct Handed {
     pub drawn: Drawn,
     pub counters: Counters,

@@ -1,14 +1,16 @@
 // The book's words and the word that a walk stands at. Each function that takes, makes or holds a `Reader` has a proof by hand, so there are few of them; the last one has plain parameters, and its callers are proved as any other.
+#![tactic(auto)]
+
 ghost use Rattle.std.specs.Prelude.{◌≡◌, ◌+◌, ◌^◌, ◌<◌, get_or};
 
-#[derive(Drop)]
+#[derive(Clone, Copy)]
 struct Reader<'a> {
     words: &'a [u32],
     at: usize,
 }
 
 // A word, and the place after it.
-#[derive(Drop)]
+#[derive(Clone, Copy)]
 pub struct Taken {
     pub word: u32,
     pub next: usize,

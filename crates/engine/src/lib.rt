@@ -1,4 +1,6 @@
 // The engine: a book of bytes is run to its end, or refused with a number and a place.
+#![tactic(auto)]
+
 ghost use Rattle.std.specs.Prelude.{◌≡◌, ◌≤◌, length, replicate};
 ghost use Rattle.std.proofs.Math.Option.{none};
 ghost use Rattle.model.specs.Book.Words.{bytes_refusal, words_of};

@@ -1,4 +1,6 @@
 // What a run changes: the log, the counters, the changed flag and the index of predicted rows; and why it ended early.
+#![tactic(auto)]
+
 ghost use Rattle.std.specs.Prelude.{◌≡◌, ◌≤◌, length, get_or};
 ghost use Rattle.instr.specs.Stands.{Short};
 ghost use Rattle.lanes.specs.Lanes.{listed};
@@ -12,7 +14,7 @@ use mask::Mask;
 use record_log::Appended;
 
 // A run goes on; or a counter would have passed its limit (refusal 13), or a record the end of the log (refusal 12).
-#[derive(Drop)]
+#[derive(Clone, Copy)]
 pub enum Stop {
     Going,
     Spent,
@@ -20,7 +22,7 @@ pub enum Stop {
 }
 
 // What is kept by value: how many words of the log are used, the counters, whether anything was staged, and whether the run goes on.
-#[derive(Drop)]
+#[derive(Clone, Copy)]
 pub struct ExecutionState {
     pub used: usize,
     pub counters: Counters,
@@ -29,21 +31,21 @@ pub struct ExecutionState {
 }
 
 // The live lanes of a batch, and what the run keeps.
-#[derive(Drop)]
+#[derive(Clone, Copy)]
 pub struct Live {
     pub mask: Mask,
     pub state: ExecutionState,
 }
 
 // What a lane can stage.
-#[derive(Drop)]
+#[derive(Clone, Copy)]
 pub enum Change {
     Insert,
     Remove,
 }
 
 // Which record it stages: an insert or a removal of what a list of entries stands for.
-#[derive(Drop)]
+#[derive(Clone, Copy)]
 pub struct Staging {
     pub change: Change,
     pub table: TableId,

@@ -1,4 +1,6 @@
 // The functions 0 to 7, by number: they stand in for `ExternalFunction`.
+#![tactic(auto)]
+
 ghost use Rattle.std.specs.Prelude.{◌≡◌, [], ◌∷◌};
 ghost use Rattle.model.specs.Machine.Functions as model;
 ghost use Rattle.functions.specs.Answers.{answer_of};
@@ -6,7 +8,7 @@ ghost use Rattle.functions.specs.Answers.{answer_of};
 use ids::ExternalFunctionId;
 
 // A word, or nothing.
-#[derive(Drop)]
+#[derive(Clone, Copy)]
 pub enum Answer {
     Word(u32),
     Nothing,

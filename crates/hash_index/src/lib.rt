@@ -1,4 +1,6 @@
 // An index over the rows of one or more tables, by key: 1024 heads and 1024 tails of chains, then a link for each row. A word of it is a row's number plus 1, or 0 for none. A chain has the rows whose keys have one home, ascending. The rows of a table are numbered on end, from the number of its first row on.
+#![tactic(auto)]
+
 mod all_tables;
 
 ghost use Rattle.std.specs.Prelude.{◌≡◌, ◌+◌, ◌-◌, ◌*◌, ◌^◌, ◌<◌, ◌≤◌, true, length, replicate, slice_index};

@@ -1,28 +1,29 @@
 // Numbers that name something in a book, each of a type of its own, so that one never stands for another.
+#![tactic(auto)]
 
 // The stale mark: what a variable has in a lane that got no word. No word of a book that is a value may be it.
 pub const STALE: u32 = 4294967295;
 
 // A table, counted from 0 among the tables of a book.
-#[derive(Drop)]
+#[derive(Clone, Copy)]
 pub struct TableId(pub u32);
 
 // A counter, counted from 0 among the counters of a book.
-#[derive(Drop)]
+#[derive(Clone, Copy)]
 pub struct CounterId(pub u32);
 
 // A variable of a rule, 0 to 31.
-#[derive(Drop)]
+#[derive(Clone, Copy)]
 pub struct Variable(pub u32);
 
 // A function, 0 to 7.
-#[derive(Drop)]
+#[derive(Clone, Copy)]
 pub struct ExternalFunctionId(pub u32);
 
 // A column of a table, counted from 0: key columns first, then values.
-#[derive(Drop)]
+#[derive(Clone, Copy)]
 pub struct ColumnId(pub u32);
 
 // A lane of a batch, 0 to 255.
-#[derive(Drop)]
+#[derive(Clone, Copy)]
 pub struct Lane(pub usize);

@@ -8,7 +8,7 @@ ghost use Rattle.instr.specs.Fields.{fields_of, past_field, part_at};
 use Field::*;
 
 // What a field of an instruction holds; nothing past its last field.
-#[derive(Drop)]
+#[derive(Clone, Copy)]
 pub enum Field {
     Nothing,
     Table,
@@ -23,7 +23,7 @@ pub enum Field {
 }
 
 // The first two words of a field, and where the second of them stands.
-#[derive(Drop)]
+#[derive(Clone, Copy)]
 pub struct Part {
     pub first: u32,
     pub second: u32,
@@ -31,7 +31,7 @@ pub struct Part {
 }
 
 // The fields of an instruction, and the word past it.
-#[derive(Drop)]
+#[derive(Clone, Copy)]
 pub struct Parts {
     pub fields: [Part; 6],
     pub next: usize,

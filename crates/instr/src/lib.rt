@@ -1,4 +1,6 @@
 // Instructions as values, read from a book's words. A list stays in the words: a value holds its place.
+#![tactic(auto)]
+
 pub mod layout;
 
 ghost use Rattle.std.specs.Prelude.{◌≡◌, ◌+◌, ◌≤◌, ◌<◌, [], ◌∷◌};
@@ -10,14 +12,14 @@ use crate::layout::Part;
 use ids::{ColumnId, CounterId, ExternalFunctionId, TableId, Variable};
 
 // A variable or a constant.
-#[derive(Drop)]
+#[derive(Clone, Copy)]
 pub enum QueryEntry {
     Var(Variable),
     Const(u32),
 }
 
 // An entry, a counter's next number, or what the row being built has at a place.
-#[derive(Drop)]
+#[derive(Clone, Copy)]
 pub enum WriteVal {
     QueryEntry(QueryEntry),
     IncCounter(CounterId),
@@ -25,13 +27,13 @@ pub enum WriteVal {
 }
 
 // A list in the words: where its first tag stands, and how many entries or write values it has, of two words each.
-#[derive(Drop)]
+#[derive(Clone, Copy)]
 pub struct Entries {
     pub at: usize,
     pub count: usize,
 }
 
-#[derive(Drop)]
+#[derive(Clone, Copy)]
 pub enum Instr {
     LookupOrInsertDefault {
         table: TableId,
@@ -100,7 +102,7 @@ pub enum Instr {
 }
 
 // The variable that an instruction binds, or none.
-#[derive(Drop)]
+#[derive(Clone, Copy)]
 pub enum Dst {
     Var(Variable),
     Nothing,

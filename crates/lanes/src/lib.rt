@@ -1,4 +1,6 @@
 // The passes over the lanes of a batch that only read: what each live lane is answered, and which lanes pass a test. An index of the book's rows may be lent as `chains`; an empty one is none.
+#![tactic(auto)]
+
 ghost use Rattle.std.specs.Prelude.{◌≡◌, ◌&&◌, ◌+◌, ◌*◌, ◌≤◌, ◌<◌, min, length, get_or, set, take, drop};
 ghost use Rattle.std.proofs.Math.Option.{some};
 ghost use Rattle.std.proofs.Math.ListN.{get_elem?};
@@ -21,7 +23,7 @@ use mask::Mask;
 use predicted_index::Sought;
 
 // What a lane asks for: a column of the committed row with a key, what a function answers, a variable's word, or a constant.
-#[derive(Drop)]
+#[derive(Clone, Copy)]
 pub enum Ask {
     Lookup {
         of: Sought,
@@ -37,7 +39,7 @@ pub enum Ask {
 }
 
 // What a lane has to pass: two entries are equal, or differ, or some pair of a list's two sides differs.
-#[derive(Drop)]
+#[derive(Clone, Copy)]
 pub enum Test {
     Eq(QueryEntry, QueryEntry),
     Ne(QueryEntry, QueryEntry),

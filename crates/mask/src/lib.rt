@@ -1,17 +1,19 @@
 // Which lanes of a batch are live: a mask by value, with a mark for each of 256 lanes.
+#![tactic(auto)]
+
 ghost use Rattle.std.specs.Prelude.{◌≡◌, true, false, not, cond, ◌≤◌, ◌<◌, max, get_or, set};
 ghost use Rattle.model.specs.Machine.Steps.{any_live};
 ghost use Rattle.mask.specs.Masks.{first_lanes, united, without, count, end};
 
 use ids::Lane;
 
-#[derive(Drop)]
+#[derive(Clone, Copy)]
 pub struct Mask {
     pub live: [bool; 256],
 }
 
 // A lane as a byte. With this, and with `marked` and `later` as functions of their own, `end` compiles to a maximum of bytes, 16 lanes at once.
-#[derive(Drop)]
+#[derive(Clone, Copy)]
 struct LaneByte(u8);
 
 // A lane if it is live, else lane 0.

@@ -1,4 +1,6 @@
 // Predicted rows: one for each table and asked key, found in the log by the index, else built and logged; and who asks for them.
+#![tactic(auto)]
+
 ghost use Rattle.std.specs.Prelude.{◌≡◌, ◌≤◌, ◌<◌, length};
 ghost use Rattle.predicted_index.specs.Row.{Searchable};
 ghost use Rattle.instr.specs.Stands.{Short};
@@ -13,28 +15,28 @@ use predicted_index::{Slot, Sought};
 use tables::Found;
 
 // Which row is asked for: of which table, and the write values of a new one.
-#[derive(Drop)]
+#[derive(Clone, Copy)]
 pub struct Row {
     pub of: Sought,
     pub vals: Entries,
 }
 
 // That row, by its key.
-#[derive(Drop)]
+#[derive(Clone, Copy)]
 pub struct Keyed {
     pub row: Row,
     pub key: Args,
 }
 
 // A row was got: whether it is new, and what the run keeps.
-#[derive(Drop)]
+#[derive(Clone, Copy)]
 pub struct Got {
     pub made: bool,
     pub state: ExecutionState,
 }
 
 // What a lane asks for: a row by the key that entries stand for, and the column that dst takes.
-#[derive(Drop)]
+#[derive(Clone, Copy)]
 pub struct Asking {
     pub row: Row,
     pub key: Entries,
@@ -42,7 +44,7 @@ pub struct Asking {
 }
 
 // A lane's turn to be served, if it is live, and what the run keeps.
-#[derive(Drop)]
+#[derive(Clone, Copy)]
 struct Turn {
     lane: Lane,
     live: bool,
@@ -99,7 +101,7 @@ fn insert(
 }
 
 // The predicted rows. What it would hold is lent: the rows' words stand in the log, and their places in the index.
-#[derive(Drop)]
+#[derive(Clone, Copy)]
 pub struct PredictedVals;
 
 impl PredictedVals {

@@ -1,5 +1,7 @@
 // What PredictedVals is made of: an index of 8192 words over the predicted rows of the log, by table and key.
 // A slot is 0 where it is free, else the place of a record in the log plus 1. A row stands at the first slot, from its key's home on, that was free when it came.
+#![tactic(auto)]
+
 mod row;
 
 ghost use Rattle.std.specs.Prelude.{◌≡◌, ◌+◌, ◌≤◌, ◌<◌, length, set};
@@ -10,7 +12,7 @@ ghost use Rattle.predicted_index.specs.Index.{after, answers, probed, slot_of, S
 pub use row::{Sought, row_of};
 
 // The place of the record that has the key; or the free slot where it belongs; or neither, after all slots.
-#[derive(Drop)]
+#[derive(Clone, Copy)]
 pub enum Slot {
     Hit(usize),
     Free(usize),

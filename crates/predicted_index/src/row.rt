@@ -9,7 +9,7 @@ use ids::TableId;
 use tables::{Found, TableInfo};
 
 // The table in which a row is sought: its number, its sizes, and the number of its first row among the committed rows of all tables.
-#[derive(Drop)]
+#[derive(Clone, Copy)]
 pub struct Sought {
     pub table: TableId,
     pub info: TableInfo,

@@ -1,4 +1,6 @@
 // The reading of a book's words: refusals 2 to 6, with their places.
+#![tactic(auto)]
+
 ghost use Rattle.std.specs.Prelude.{◌≡◌, ◌<◌, ◌≤◌, length};
 ghost use Rattle.std.proofs.Math.Option.{none};
 ghost use Rattle.model.specs.Basics.{◌else◌};
@@ -17,7 +19,7 @@ use contents::{Checked, Contents};
 use scan::Scan;
 
 // What a reading comes to. An entry of the contents or the layout of a body is at fault; or at a word of the book a number names what is absent, a word is the stale mark, or a row begins that repeats a key.
-#[derive(Drop)]
+#[derive(Clone, Copy)]
 pub enum Reading {
     Pass,
     Contents(usize),

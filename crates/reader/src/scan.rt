@@ -6,7 +6,7 @@ ghost use Rattle.reader.specs.Values.{draw_of, test_of, scan_of};
 use ids::STALE;
 
 // What a word draws: nothing, 3, 6 or 4.
-#[derive(Drop)]
+#[derive(Clone, Copy)]
 enum Draw {
     Fine,
     Layout,
@@ -15,7 +15,7 @@ enum Draw {
 }
 
 // What a word has to be: anything; not the stale mark, else it draws 4; below a number, else 6; at most a number, or from one to another, else 3.
-#[derive(Drop)]
+#[derive(Clone, Copy)]
 pub enum Test {
     Any,
     Clean,
@@ -25,7 +25,7 @@ pub enum Test {
 }
 
 // A walk that drew 3; or the word that it stands at, with the first words that drew 6 and 4. There 0 is none, since no body has word 0 of the book.
-#[derive(Drop)]
+#[derive(Clone, Copy)]
 pub enum Scan {
     Bad,
     Good {

@@ -1,4 +1,6 @@
 // The log: records of kind, table and words, one after the other, appended up to the end of the words that are lent for it; and where each ends.
+#![tactic(auto)]
+
 ghost use Rattle.std.specs.Prelude.{◌≡◌, ◌+◌, ◌≤◌, length, get_or};
 ghost use Rattle.std.proofs.lemmas.List.Edits.{sets};
 ghost use Rattle.model.specs.Basics.{tab};
@@ -8,7 +10,7 @@ ghost use Rattle.record_log.specs.Walk.{end_of};
 use ids::TableId;
 
 // How many words are used after a record was appended; or there is no room for it.
-#[derive(Drop)]
+#[derive(Clone, Copy)]
 pub enum Appended {
     Used(usize),
     Full,

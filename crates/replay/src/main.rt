@@ -1,4 +1,6 @@
 // Runs the books whose files its arguments name, one after the other: for each a line with the name, then what `dispatch` prints for it.
+#![tactic(auto)]
+
 use libc::STDOUT_FILENO;
 
 fn replay_file(name: &[u8]) {

@@ -1,4 +1,6 @@
 // The lines that program `dispatch` prints, as bytes in a buffer that is lent: those of an answer, or the one of a refusal. What has no room there is left out.
+#![tactic(auto)]
+
 mod lines;
 mod text;
 

@@ -7,7 +7,7 @@ ghost use Rattle.report.specs.declared.lines.Family.TheVariants.{Steps, Tables, 
 use crate::text;
 
 // The entries whose lines stand together, numbered from 0.
-#[derive(Drop)]
+#[derive(Clone, Copy)]
 pub enum Family {
     Steps,
     Tables,
@@ -15,7 +15,7 @@ pub enum Family {
 }
 
 // How many lines there are, and where the next byte goes.
-#[derive(Drop)]
+#[derive(Clone, Copy)]
 pub struct Lines {
     pub count: usize,
     pub at: usize,

@@ -1,4 +1,6 @@
 // The check of a book's rules: refusals 8, 7, 10 and 9 of their instructions; refusal 11 of its steps; and, with the reading, the first of refusals 2 to 11.
+#![tactic(auto)]
+
 ghost use Rattle.std.specs.Prelude.{◌≡◌, ◌≤◌, ◌<◌, length};
 ghost use Rattle.model.specs.Basics.{◌else◌};
 ghost use Rattle.model.specs.Book.Contents.{rule_count};
@@ -18,7 +20,7 @@ use contents::Contents;
 use reader::Reading;
 
 // What an instruction, a rule or all rules come to: they pass, or the instruction whose opcode stands at a place is refused.
-#[derive(Drop)]
+#[derive(Clone, Copy)]
 pub enum Checking {
     Pass,
     Size(usize),
@@ -28,14 +30,14 @@ pub enum Checking {
 }
 
 // What the steps come to: they pass, or a body does not fit its rule or table.
-#[derive(Drop)]
+#[derive(Clone, Copy)]
 pub enum Fitting {
     Pass,
     Unfit(usize),
 }
 
 // A book passes, or is refused by a number of document 01's table, with a place.
-#[derive(Drop)]
+#[derive(Clone, Copy)]
 pub enum Verdict {
     Pass,
     Refused(u32, usize),

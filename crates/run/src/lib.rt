@@ -1,4 +1,6 @@
 // The steps of a book, one after the other. Each step's body goes to the front of the answer's words, past those of the steps before it.
+#![tactic(auto)]
+
 ghost use Rattle.std.specs.Prelude.{◌≡◌, ◌+◌, ◌-◌, ◌≤◌, ◌<◌, length};
 ghost use Rattle.model.specs.Book.Contents.{kind_of, step_count, table_count};
 ghost use Rattle.model.specs.Laws.Book.{Readable};
@@ -11,7 +13,7 @@ use contents::Contents;
 use execution::ExecutionState;
 
 // What the run keeps, how many steps have answered, how many words their bodies have in all, and each.
-#[derive(Drop)]
+#[derive(Clone, Copy)]
 pub struct Progress {
     pub state: ExecutionState,
     pub done: usize,

@@ -1,4 +1,6 @@
 // Runs the sample of the differential runs, read on standard input, and prints how many of its books came out as the sample says. harness/README.md has the format.
+#![tactic(auto)]
+
 ghost use Rattle.std.specs.Prelude.{◌≤◌, length};
 
 use conclude::Outcome;

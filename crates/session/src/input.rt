@@ -3,14 +3,14 @@ ghost use Rattle.std.specs.Prelude.{◌<◌, ◌≤◌, length};
 ghost use Rattle.session.specs.Input.{Filled, Held};
 
 // How many bytes are there; or a read failed.
-#[derive(Drop)]
+#[derive(Clone, Copy)]
 pub enum Input {
     Bytes(usize),
     Failed,
 }
 
 // What one read came to: the place past the bytes that it put into the buffer.
-#[derive(Drop)]
+#[derive(Clone, Copy)]
 pub enum Got {
     Upto(usize),
     End,

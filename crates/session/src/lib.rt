@@ -1,4 +1,6 @@
 // A book read from a descriptor, run with the memory that `dispatch` lends, and its lines written to standard output.
+#![tactic(auto)]
+
 mod input;
 
 ghost use Rattle.std.specs.Prelude.{◌≡◌, ◌++◌, ℕ, ◌<◌, ◌≤◌, length, get_or, take, drop};

@@ -1,1 +1,2 @@
 // That the code's run is the plain machine's: definitions and proofs alone, in specs/.
+#![tactic(auto)]

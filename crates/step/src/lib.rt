@@ -1,4 +1,6 @@
 // The two kinds of step: a batch runs its rule, a prediction asks for a row. An index of the book's rows is lent as `chains`, or an empty one for none.
+#![tactic(auto)]
+
 ghost use Rattle.std.specs.Prelude.{◌≡◌, ◌+◌, ◌*◌, ◌≤◌, ◌<◌, length};
 ghost use Rattle.model.specs.Book.Contents.{first_of, kind_of, table_count};
 ghost use Rattle.model.specs.Laws.Book.{Readable};

@@ -1,4 +1,6 @@
 // The bodies of the steps: kind 6 for a batch, kind 7 for a prediction. A body that does not fit whole is not written, but its words are counted.
+#![tactic(auto)]
+
 ghost use Rattle.std.specs.Prelude.{◌≡◌, ◌+◌, ◌^◌, ◌<◌, ◌≤◌, length, get_or, false};
 ghost use Rattle.std.proofs.lemmas.List.Edits.{sets};
 ghost use Rattle.model.specs.Basics.{tab, how_many};

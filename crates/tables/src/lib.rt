@@ -1,11 +1,13 @@
 // The tables of a book: their sizes, and their rows by key.
+#![tactic(auto)]
+
 ghost use Rattle.std.specs.Prelude.{◌≡◌, ◌+◌, ◌^◌, ◌≤◌, ◌<◌, length, get_or, replicate};
 ghost use Rattle.model.specs.Book.Contents.{first_of};
 ghost use Rattle.words.specs.Filled.{filled};
 ghost use Rattle.tables.specs.Tables.{info_at, info_of, same_words, Stands, found_row};
 
 // A table's key count, the words of a row, its merge rule, its row count, and the word of its first row.
-#[derive(Drop)]
+#[derive(Clone, Copy)]
 pub struct TableInfo {
     pub keys: usize,
     pub width: usize,
@@ -15,7 +17,7 @@ pub struct TableInfo {
 }
 
 // The word at which the row with a key begins.
-#[derive(Drop)]
+#[derive(Clone, Copy)]
 pub enum Found {
     At(usize),
     Nothing,

@@ -1,4 +1,6 @@
 // What C and Rust link: every function of include/dispatch.h, each a thin one over an entry point.
+#![tactic(auto)]
+
 ghost use Rattle.std.specs.Prelude.{◌≡◌, min, length, replicate};
 ghost use Rattle.engine.specs.Engine.{lent_of};
 ghost use Rattle.wirumbane.specs.Returned.{packed, Returned};

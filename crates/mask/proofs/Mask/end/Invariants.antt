@@ -1,0 +1,15 @@
+use Prim.Native.Nat.{◌+◌, ◌-◌, ◌≤◌}
+use mathlib.Core.Path.{◌∙◌, ◌≡◌}
+use mathlib.Core.Bool.{false, cond}
+use native.Mathlib.Omega.{arith}
+use lib.ListN.{length, get_or}
+use Rattle.mask.specs.Masks.{past_last, end}
+use Rattle.mask.specs.MaskLaws.{end_by, last_turn}
+use borrow.Author.Rules.{rules}
+use Rattle.mask.proofs.Mask.end.Given as goal
+
+abbrev pub invariant-loop-i : goal.invariant-loop-i
+invariant-loop-i l = (l.i ≤ 256) × (l.last.0 ≤ l.i - 1) × (l.last.0 ≡ past_last (λ k. get_or l.self.live k false) l.i - 1)
+
+abbrev pub decreases-loop-i : goal.decreases-loop-i
+decreases-loop-i l = 256 - l.i
