@@ -1,4 +1,3 @@
--- Each arm's kinds have the length that the arm adds.
 use Prim.Native.Nat.{ℕ, ◌+◌, ◌*◌}
 use mathlib.Core.Path.{◌≡◌, refl, ◌∙◌}
 use mathlib.Core.List.{List, [], ◌∷◌}
@@ -11,8 +10,7 @@ use Rattle.instr.specs.declared.layout.Field.{Field}
 use Rattle.instr.specs.declared.layout.Field.TheVariants.{Nothing, Table, Counter, Function, Dst, Column, Divider, Entry, Entries, Writes}
 use Rattle.instr.specs.Fields.{past_field}
 use Rattle.instr.specs.contracts.layout.Field.{the_type}
-use Rattle.instr.proofs.layout.past_field.Statement.{statement}
-use Rattle.instr.proofs.layout.past_field.Tie as tie
+use Rattle.instr.proofs.layout.past_field.Goals as goal
 
 one_word : (w : List ℕ) (p : ℕ) (f : Field) → OneOf (1 ∷ 2 ∷ 3 ∷ 4 ∷ 5 ∷ 6 ∷ []) (tag_of the_type f) → p + 1 ≡ past_field w f p
 unfolding after
@@ -40,20 +38,7 @@ a_list w p Entry h = absurd (miss (8 ∷ 9 ∷ []) 7 tt h)
 a_list w p Entries h = refl
 a_list w p Writes h = refl
 
-returns-2 : tie.Need-returns-2
-returns-2 c = let a = c.before.before.args in (one_word a.words.now _ a.f c.match.keys2, search rules)
-
-returns-3 : tie.Need-returns-3
-unfolding after
-returns-3 c = rw c.enum-told2.given.1 (search rules)
-
-returns-4 : tie.Need-returns-4
-returns-4 c =
-    let a = c.before.before.before.args in
-    (rw c.size-at.ensures.0 (a_list a.words.now _ a.f c.before.match.keys4), search rules)
-
-pub past_field_spec : {M : Type 1} → statement M
-past_field_spec =
-    tie.close
-    (tie.spec (λ c. search rules) (λ c. search rules) (λ c. search rules) (λ c. search rules) (λ c. search rules)
-    (λ c κs. search rules) (λ c. search rules) (λ c. search rules) (λ c. search rules) returns-2 returns-3 returns-4)
+pub returns-in-Entries : goal.returns-in-Entries
+returns-in-Entries c =
+    let a = c.args in
+    (rw c.size_at.ensures.0 (a_list a.words.now _ a.f c.in-Entries.in-Entries-own.keys4), search rules)

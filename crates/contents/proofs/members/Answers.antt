@@ -1,0 +1,21 @@
+use Prim.Native.Nat.{◌≤◌, ◌-◌}
+use mathlib.Core.Path.{◌≡◌, sym, ap, ◌∙◌}
+use mathlib.Core.Logic.{⊎_elim}
+use native.Mathlib.Omega.{arith}
+use Rattle.model.specs.Book.Contents.{group, members}
+use Rattle.contents.specs.ContentsLaws.{count_yes, count_no, count_small, none_counted}
+use borrow.Author.Rules.{rules}
+use Rattle.contents.proofs.members.Goals as goal
+
+pub loop-i-init : goal.loop-i-init
+loop-i-init c = (search rules, none_counted _ _)
+
+pub overflow_add-c : goal.overflow_add-c
+overflow_add-c c =
+    let a = c.args in
+    let l = c.loop-i in omega (arith, count_small a.words.now a.g l.i l.c l.invariant.1 (omega arith))
+
+pub returns : goal.returns
+returns c =
+    let e : c.loop-i.i ≡ c.args.n = omega arith in
+    rw e at c.loop-i.invariant.1
