@@ -9,25 +9,18 @@ use lib.ListN.{get_or, length, length-set}
 use Rattle.model.specs.Book.Contents.{group, last_group, begins, entry_fits}
 use Rattle.contents.specs.ContentsLaws.{Counts, no_counts, small_count, more_counts, entry_test, count_true, count_0, count_129, count_past, refuse_count, refuse_entry, refuse_end, pass}
 use borrow.Author.Rules.{rules}
-use Rattle.contents.proofs.check.Reads as reads
-use Rattle.contents.proofs.check.Lts as lts
-use Rattle.contents.proofs.end_of.Reads as end-of-reads
-use Rattle.contents.proofs.first_of.Reads as first-of-reads
-use Rattle.contents.proofs.fits.Reads as fits-reads
-use Rattle.contents.proofs.group.Reads as group-Reads
-use Rattle.contents.proofs.kind_of.Reads as kind-of-reads
-use Rattle.words.proofs.size.Reads as size-reads
 use Rattle.contents.proofs.check.Goals as goal
+use Rattle.contents.proofs.check.Goals.{After-fits}
 
 -- the entry's test, as the code has it before the branch
-fit : (c : lts.After-fits2 (size-reads.Asked, size-reads.Learnt, kind-of-reads.Asked, kind-of-reads.Learnt, group-Reads.Asked, group-Reads.Learnt, first-of-reads.Asked, first-of-reads.Learnt, fits-reads.Asked, fits-reads.Learnt, end-of-reads.Asked, end-of-reads.Learnt) reads.Pre reads.Post invariant-loop decreases-loop) → c.fits2.result ≡ entry_fits c.args.words.now c.loop-i.i
+fit : (c : After-fits) → c.fits.result ≡ entry_fits c.args.words.now c.loop-i.i
 fit c =
     let a = c.args in
     let kind-of = c.kind_of in
     let l = c.loop-i in
     let g = c.group-g.ensures in
     let s = ap (λ (k : ℕ). get_or l.counts k 0 + 1) c.size-k.ensures.0 in
-    c.fits2.ensures ∙ entry_test a.words.now l.i _ _ _ _ _ l.counts l.invariant.3 g.1 l.invariant.1 (g.0 ∙ ap group kind-of.ensures) s c.first_of-first.ensures.0 l.invariant.2
+    c.fits.ensures ∙ entry_test a.words.now l.i _ _ _ _ _ l.counts l.invariant.3 g.1 l.invariant.1 (g.0 ∙ ap group kind-of.ensures) s c.first_of-first.ensures.0 l.invariant.2
 
 pub returns-then-n-eq0 : goal.returns-then-n-eq0
 returns-then-n-eq0 c =
@@ -58,7 +51,7 @@ pub returns-then-not-fits : goal.returns-then-not-fits
 returns-then-not-fits c =
     let a = c.args in
     let l = c.loop-i in
-    refuse_entry a.words.now (count_true a.words.now (omega arith) (omega arith) (omega arith)) l.i (omega arith) l.invariant.4 (sym (fit c) ∙ not-true _ c.if-not-fits.true)
+    refuse_entry a.words.now (count_true a.words.now (omega arith) (omega arith) (omega arith)) l.i (omega arith) l.invariant.4 (sym (fit (goal.at.returns-then-not-fits c).After-fits) ∙ c.if-not-fits.true)
 
 pub loop-i-preserved : goal.loop-i-preserved
 loop-i-preserved c =
@@ -69,7 +62,7 @@ loop-i-preserved c =
     let g = group2.ensures in
     let k = c.size-k.ensures.0 in
     let e = g.0 ∙ ap group kind-of.ensures in
-    (search rules, rw add-one e, rw add-one c.end_of-end.ensures.0, more_counts a.words.now l.counts l.i _ _ l.invariant.3 l.invariant.5 (omega arith) (k ∙ e) refl, below_more _ _ l.invariant.4 (sym (fit c) ∙ not-false _ c.if-not-fits.false), length-set l.counts _ _ ∙ l.invariant.5)
+    (search rules, rw add-one e, rw add-one c.end_of-end.ensures.0, more_counts a.words.now l.counts l.i _ _ l.invariant.3 l.invariant.5 (omega arith) (k ∙ e) refl, below_more _ _ l.invariant.4 (sym (fit (goal.at.loop-i-preserved c).After-fits) ∙ c.if-not-fits.false), length-set l.counts _ _ ∙ l.invariant.5)
 
 pub returns-then-end-words : goal.returns-then-end-words
 returns-then-end-words c =
