@@ -1,0 +1,5 @@
+use borrow.Author.Rules.{rules}
+use Rattle.bound_vars.proofs.Bound.bind.Goals as goal
+
+pub returns : goal.returns
+returns c = rw c.size-x.ensures.0

@@ -1,0 +1,12 @@
+use Rattle.std.proofs.Common.{sym, ap, ◌∙◌, arith, rules}
+use Rattle.tables.specs.declared.Found.TheVariants.{At}
+use Rattle.tables.specs.TablesLaws.{found_nothing}
+use Rattle.hash_index.specs.Index.{Has}
+use Rattle.hash_index.specs.SearchLaws.{left, Reached, reached_head, none_left, standing, row_told_lem, first_row, has_length}
+use Rattle.hash_index.proofs.find.Given as goal
+
+abbrev pub invariant-loop-p : goal.invariant-loop-p
+invariant-loop-p l = (has : Has l.words l.info l.first l.index) × Reached l.words l.info l.key l.first l.index has l.p
+
+abbrev pub decreases-loop-p : goal.decreases-loop-p
+decreases-loop-p l = left l.p

@@ -1,0 +1,13 @@
+use Rattle.std.proofs.Common.{◌≡◌, ℕ, ◌+◌, ◌-◌, ◌/◌, ◌≤◌, get_or, ap, ◌∙◌, arith, rules}
+use Rattle.model.specs.Basics.{tab}
+use Rattle.hash_index.specs.Fold.{folded}
+use Rattle.hash_index.specs.FoldLaws.{folded_none, folded_more}
+use Rattle.hash_index.specs.Index.{home_of, home_at}
+use Rattle.hash_index.specs.SearchLaws.{home_below}
+use Rattle.hash_index.proofs.home.Given as goal
+
+abbrev pub invariant-loop-i : goal.invariant-loop-i
+invariant-loop-i l = (l.i ≤ l.k) × (l.h ≡ folded 0 (tab (λ j. get_or l.words (l.at + j) 0) l.i))
+
+abbrev pub decreases-loop-i : goal.decreases-loop-i
+decreases-loop-i l = l.k - l.i

@@ -1,0 +1,6 @@
+use Rattle.std.proofs.Common.{ap, ◌∙◌, rules}
+use Rattle.hash_index.specs.Fold.{spun}
+use Rattle.hash_index.proofs.mix.Goals as goal
+
+pub returns : goal.returns
+returns c = c.spin.ensures ∙ ap spun c.wrapping_add_u32.ensures.value
