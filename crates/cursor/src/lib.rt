@@ -1,4 +1,4 @@
-// The book's words and the word that a walk stands at. Each function that takes, makes or holds a `Reader` has a proof by hand, so there are few of them; the last one has plain parameters, and its callers are proved as any other.
+// The book's words and the word that a walk stands at. The last function has plain parameters, so its callers hold a slice and a place, and no `Reader`.
 #![tactic(auto)]
 
 ghost use Rattle.std.specs.Prelude.{◌≡◌, ◌+◌, ◌^◌, ◌<◌, get_or};
