@@ -1,0 +1,13 @@
+use mathlib.Core.Path.{sym, ap, ◌∙◌}
+use Rattle.reader.specs.Values.{scan_of}
+use Rattle.reader.specs.BodyLaws.{block_is, block_stops}
+use borrow.Author.Rules.{rules}
+use Rattle.reader.proofs.bodies.block.Goals as goal
+
+pub returns-in-Bad : goal.returns-in-Bad
+returns-in-Bad c =
+    let a = c.args in
+    sym (block_stops a.end a.words.now a.n (scan_of a.s) (sym c.left-t.ensures ∙ ap scan_of c.in-Bad.is))
+
+pub returns : goal.returns
+returns c = rw (c.cleans.ensures, c.left-t.ensures, block_is)

@@ -1,0 +1,18 @@
+use Prim.Native.Nat.{◌≤◌, ◌-◌}
+use mathlib.Core.Path.{◌≡◌, refl, ◌∙◌}
+use native.Mathlib.Omega.{arith}
+use Rattle.model.specs.Basics.{iter}
+use Rattle.model.specs.Laws.Iter.{iter_more}
+use Rattle.reader.specs.Values.{scan_of}
+use Rattle.model.specs.Book.Scan.{word, clean}
+use borrow.Author.Rules.{rules}
+use Rattle.reader.proofs.bodies.cleans.Goals as goal
+
+pub loop-i-init : goal.loop-i-init
+loop-i-init c = (search rules, refl)
+
+pub returns : goal.returns
+returns c =
+    let l = c.loop-i in
+    let e : l.i ≡ c.args.n = omega arith in
+    l.invariant.1 ∙ rw e

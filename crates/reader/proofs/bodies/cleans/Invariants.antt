@@ -1,0 +1,15 @@
+use Prim.Native.Nat.{◌≤◌, ◌-◌}
+use mathlib.Core.Path.{◌≡◌, refl, ◌∙◌}
+use native.Mathlib.Omega.{arith}
+use Rattle.model.specs.Basics.{iter}
+use Rattle.model.specs.Laws.Iter.{iter_more}
+use Rattle.reader.specs.Values.{scan_of}
+use Rattle.model.specs.Book.Scan.{word, clean}
+use borrow.Author.Rules.{rules}
+use Rattle.reader.proofs.bodies.cleans.Given as goal
+
+abbrev pub invariant-loop-i : goal.invariant-loop-i
+invariant-loop-i l = (l.i ≤ l.n) × (scan_of l.t ≡ iter (λ _. word l.end l.words clean) l.i (scan_of l.initial.t))
+
+abbrev pub decreases-loop-i : goal.decreases-loop-i
+decreases-loop-i l = l.n - l.i

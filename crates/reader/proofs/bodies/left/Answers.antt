@@ -1,0 +1,28 @@
+use borrow.Author.Tests.{eq-eqb, ne_eqb}
+use Prim.Native.Nat.{◌+◌}
+use native.Mathlib.Omega.{arith}
+use Rattle.model.specs.Book.Scan.{left}
+use borrow.Author.Rules.{rules}
+use Rattle.reader.proofs.bodies.left.Goals as goal
+
+pub returns-then-end-at : goal.returns-then-end-at
+unfolding left
+returns-then-end-at c =
+    let a = c.args in
+    rw (c.in-Good.is, ne_eqb (c.in-Good.at + a.n) a.end (omega arith))
+
+pub returns-in-Bad : goal.returns-in-Bad
+unfolding left
+returns-in-Bad c = rw c.in-Bad.is
+
+pub returns-then-end-at-2 : goal.returns-then-end-at-2
+unfolding left
+returns-then-end-at-2 c =
+    let a = c.args in
+    rw (c.in-Good.is, eq-eqb (c.in-Good.at + a.n) a.end (omega arith))
+
+pub returns-else-end-at-2 : goal.returns-else-end-at-2
+unfolding left
+returns-else-end-at-2 c =
+    let a = c.args in
+    rw (c.in-Good.is, ne_eqb (c.in-Good.at + a.n) a.end (omega arith))

@@ -1,0 +1,22 @@
+use lib.ListN.{length}
+use Prim.Native.Nat.{◌≤◌, ◌-◌}
+use mathlib.Core.Path.{◌≡◌, refl, ◌∙◌}
+use native.Mathlib.Omega.{arith}
+use Rattle.model.specs.Basics.{iter}
+use Rattle.model.specs.Laws.Iter.{iter_more}
+use Rattle.reader.specs.Values.{scan_of, sizes_of}
+use Rattle.reader.specs.ScanLaws.{field_turn, instr_is}
+use borrow.Author.Rules.{rules}
+use Rattle.reader.proofs.instructions.instr.Goals as goal
+
+pub loop-k-init : goal.loop-k-init
+loop-k-init c = (search rules, refl)
+
+pub returns : goal.returns
+returns c =
+    let peek = c.peek in
+    let l = c.loop-k in
+    let e : l.k ≡ 6 = omega arith in
+    let fs = c.fields-fs in
+    let n : length fs.result ≡ 6 = search rules in
+    l.invariant.1 ∙ rw (e, c.word-t.ensures, instr_is _ _ _ _ fs.result n (rw peek.ensures at fs.ensures.all))

@@ -1,0 +1,30 @@
+use Rattle.reader.specs.ScanLaws.{list_is, list_stops, pair_bad}
+use Prim.Native.Nat.{◌≤◌, ◌-◌}
+use mathlib.Core.Path.{◌≡◌, refl, sym, ap, ◌∙◌}
+use native.Mathlib.Omega.{arith}
+use Rattle.model.specs.Basics.{iter}
+use Rattle.model.specs.Laws.Iter.{iter_more}
+use Rattle.reader.specs.Values.{scan_of, sizes_of}
+use Rattle.reader.specs.ScanLaws.{list_is, pair_bad}
+use Rattle.model.specs.Book.Scan.{pair}
+use borrow.Author.Rules.{rules}
+use Rattle.reader.proofs.instructions.pairs.Goals as goal
+
+pub returns-in-Bad : goal.returns-in-Bad
+returns-in-Bad c =
+    let a = c.args in
+    let one = pair a.end a.words.now (sizes_of a.sizes) a.from a.to in
+    sym (list_stops a.end a.words.now 16 one (scan_of a.s) (sym c.word-t.ensures ∙ ap scan_of c.in-Bad.is))
+
+pub loop-i-init : goal.loop-i-init
+loop-i-init c = (search rules, refl)
+
+pub returns : goal.returns
+returns c =
+    let peek = c.peek-n in
+    let word = c.word-t in
+    let a = c.args in
+    let one = pair a.end a.words.now (sizes_of a.sizes) a.from a.to in
+    let l = c.loop-i in
+    let e : l.i ≡ peek.result = omega arith in
+    l.invariant.1 ∙ rw (e, word.ensures, peek.ensures, list_is a.end a.words.now 16 one (pair_bad a.end a.words.now (sizes_of a.sizes) a.from a.to) (scan_of a.s))

@@ -1,0 +1,11 @@
+use mathlib.Core.Path.{sym}
+use lib.ListN.{get_or-eq_default}
+use native.Mathlib.Omega.{arith}
+use borrow.Author.Rules.{rules}
+use Rattle.reader.proofs.scan.peek.Goals as goal
+
+pub returns-then-at-words : goal.returns-then-at-words
+returns-then-at-words c = rw (c.in-Good.is, c.take-t.ensures.0)
+
+pub returns-in-Bad : goal.returns-in-Bad
+returns-in-Bad c = rw c.in-Bad.is
