@@ -1,0 +1,15 @@
+use Prim.Native.Nat.{◌-◌, ◌≤◌}
+use mathlib.Core.Path.{refl, ◌∙◌}
+use mathlib.Core.Option.{some}
+use native.Mathlib.Omega.{arith}
+use Rattle.bindings.specs.Columns.{word_of}
+use Rattle.instr.specs.Meaning.{entry_of}
+use Rattle.lanes.specs.PassLaws.{Answered, answered_none, answered_still, answered_all}
+use borrow.Author.Rules.{rules}
+use Rattle.lanes.proofs.fill_entry.Given as goal
+
+abbrev pub invariant-loop-i : goal.invariant-loop-i
+invariant-loop-i l = (l.i ≤ l.n) × Answered (λ k. some (word_of l.bindings k (entry_of l.e))) l.mask.live l.initial.out l.i l.mask.live l.out
+
+abbrev pub decreases-loop-i : goal.decreases-loop-i
+decreases-loop-i l = l.n - l.i

@@ -1,0 +1,19 @@
+use Prim.Native.Nat.{◌-◌, ◌≤◌}
+use native.Mathlib.Omega.{arith}
+use Rattle.lanes.specs.declared.Test.TheVariants.{AnyNe}
+use Rattle.lanes.specs.PassLaws.{Kept, kept_none, kept_turn, kept_all}
+use Rattle.lanes.specs.Lanes.{holds}
+use borrow.Author.Rules.{rules}
+use Rattle.lanes.proofs.retain_any_ne.Goals as goal
+
+pub loop-i-init : goal.loop-i-init
+loop-i-init c = (search rules, kept_none _ _ (search rules))
+
+pub loop-i-preserved : goal.loop-i-preserved
+loop-i-preserved c =
+    let l = c.loop-i in
+    let end = c.end-n in
+    (search rules, kept_turn _ _ l.i _ _ l.invariant.1 (omega (arith, end.ensures.within)) c.differ.ensures)
+
+pub returns : goal.returns
+returns c = let l = c.loop-i in kept_all _ _ l.i _ l.invariant.1 (omega (arith, c.end-n.ensures.is))
