@@ -1,0 +1,79 @@
+use Prim.Native.Nat.{◌*◌, ◌≤◌}
+use mathlib.Core.Path.{◌≡◌, refl, sym, ap, ◌∙◌}
+use mathlib.Core.Logic.{inl}
+use native.Mathlib.Omega.{arith}
+use lib.ListN.{length, take}
+use lib.Seq.{length-take-le}
+use Rattle.tables.specs.declared.TableInfo.{TableInfo}
+use Rattle.tables.specs.Tables.{Stands}
+use Rattle.commit.specs.Rows.{Rows, onto}
+use Rattle.commit.specs.Walk.{Keys, key_table, removed_keys, gone_after}
+use Rattle.commit.specs.Commit.{kept, spared}
+use Rattle.commit.specs.KeyLaws.{front_keys}
+use Rattle.commit.specs.TableLaws.{spared_kept}
+use borrow.Author.Rules.{rules}
+use Rattle.commit.proofs.removals.keep.Goals as goal
+use Rattle.commit.proofs.removals.keep.Goals.{After-gather_if-n}
+
+-- the gathered keys have room, and stand there as rows
+fits : (c : After-gather_if-n) → c.gather_if-n.result * c.args.info.keys ≤ length c.gather_if-n.new.gone
+fits c =
+    let pre = c.requires in
+    omega (arith, c.gather_if-n.ensures.0, c.gather_if-n.auto.gone, pre.2)
+
+stand : (c : After-gather_if-n) → Stands (take (c.gather_if-n.result * c.args.info.keys) c.gather_if-n.new.gone) (key_table c.args.info.keys c.gather_if-n.result)
+stand c =
+    let a = c.args in
+    let pre = c.requires in
+    record { rows = omega (arith, length-take-le (c.gather_if-n.result * a.info.keys) c.gather_if-n.new.gone (fits c)); keys = omega arith; few = pre.1.stands.few }
+
+-- the rows that they spare are those that are kept
+rows_kept : (c : After-gather_if-n) (s : Rows) → spared (take (c.gather_if-n.result * c.args.info.keys) c.gather_if-n.new.gone) (key_table c.args.info.keys c.gather_if-n.result) c.args.words.now c.args.info.at c.args.info.width c.args.info.rows s ≡ kept c.args.words.now c.args.log.now c.args.t.0 c.args.info c.args.info.rows s
+rows_kept c s =
+    let pre = c.requires in
+    let a = c.args in
+    ap (λ (x : Keys). spared x.words (key_table a.info.keys x.count) a.words.now a.info.at a.info.width a.info.rows s) (front_keys a.words.now a.log.now a.t.0 a.info.keys (ap (λ (i : TableInfo). i.keys) pre.0) a.gone.now _ c.gather_if-n.result c.gather_if-n.ensures.1)
+    ∙ spared_kept a.words.now a.log.now a.t.0 a.info s pre.0 pre.1
+
+-- what is left of the words lent for them
+gone_is : (c : After-gather_if-n) → c.gather_if-n.new.gone ≡ gone_after c.args.words.now c.args.log.now c.args.t.0 c.args.gone.now
+gone_is c =
+    let pre = c.requires in
+    let a = c.args in
+    ap (λ (x : Keys). x.words) c.gather_if-n.ensures.1 ∙ ap (λ (i : TableInfo). onto a.gone.now (removed_keys a.words.now a.log.now a.t.0 i.keys).words) pre.0
+
+pub gather_if-n-requires : goal.gather_if-n-requires
+gather_if-n-requires c = let p = c.requires in (ap (λ (i : TableInfo). i.keys) p.0, p.2, p.5)
+
+pub slice_bounds-keep_indexed-end : goal.slice_bounds-keep_indexed-end
+slice_bounds-keep_indexed-end c =
+    fits (goal.at.slice_bounds-keep_indexed-end c).After-gather_if-n
+
+pub slice_bounds-keep_indexed-end-then-serves : goal.slice_bounds-keep_indexed-end-then-serves
+slice_bounds-keep_indexed-end-then-serves c =
+    sym (length-take-le _ _ (fits (goal.at.slice_bounds-keep_indexed-end-then-serves c).After-gather_if-n))
+
+pub keep_indexed-requires : goal.keep_indexed-requires
+keep_indexed-requires c =
+    let gather-if = c.gather_if-n in
+    let p = c.requires in (p.1, stand (goal.at.keep_indexed-requires c).After-gather_if-n, omega (arith, gather-if.ensures.0, p.3), p.1.stands.keys, p.4)
+
+pub returns-then-serves : goal.returns-then-serves
+returns-then-serves c =
+    record { rows = c.keep_indexed.ensures ∙ rows_kept (goal.at.returns-then-serves c).After-gather_if-n _; gone = gone_is (goal.at.returns-then-serves c).After-gather_if-n }
+
+pub slice_bounds-keep_all-end : goal.slice_bounds-keep_all-end
+slice_bounds-keep_all-end c =
+    fits (goal.at.slice_bounds-keep_all-end c).After-gather_if-n
+
+pub slice_bounds-keep_all-end-2 : goal.slice_bounds-keep_all-end-2
+slice_bounds-keep_all-end-2 c =
+    sym (length-take-le _ _ (fits (goal.at.slice_bounds-keep_all-end-2 c).After-gather_if-n))
+
+pub keep_all-requires : goal.keep_all-requires
+keep_all-requires c =
+    let p = c.requires in (p.1, stand (goal.at.keep_all-requires c).After-gather_if-n, inl refl, p.1.stands.keys, p.4)
+
+pub returns : goal.returns
+returns c =
+    record { rows = c.keep_all.ensures ∙ rows_kept (goal.at.returns c).After-gather_if-n _; gone = gone_is (goal.at.returns c).After-gather_if-n }

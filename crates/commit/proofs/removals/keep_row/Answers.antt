@@ -1,0 +1,24 @@
+use mathlib.Core.Path.{◌≡◌, sym, ◌∙◌}
+use Rattle.tables.specs.Tables.{found_row}
+use Rattle.commit.specs.RowLaws.{key_found}
+use Rattle.commit.specs.Commit.{spare_row}
+use borrow.Author.Rules.{rules}
+use Rattle.commit.proofs.removals.keep_row.Goals as goal
+use Rattle.commit.proofs.removals.keep_row.Goals.{After-look_up}
+
+-- what is found by the row's key
+found_is : (c : After-look_up) → found_row c.args.gone.now c.args.removed c.args.row.now ≡ c.look_up.result
+found_is c =
+    let pre = c.requires in
+    let key_of = c.key_of-key in
+    let a = c.args in
+    key_found a.gone.now a.removed a.row.now key_of.result key_of.ensures pre.2 pre.0.few ∙ sym c.look_up.ensures
+
+pub returns-in-At : goal.returns-in-At
+unfolding spare_row
+returns-in-At c = rw (found_is (goal.at.returns-in-At c).After-look_up, c.in-At.is)
+
+pub returns-in-Nothing : goal.returns-in-Nothing
+unfolding spare_row
+returns-in-Nothing c =
+    rw (found_is (goal.at.returns-in-Nothing c).After-look_up, c.in-Nothing.is) c.append.ensures

@@ -1,0 +1,23 @@
+use mathlib.Core.Path.{sym, ap, ◌∙◌, subst}
+use native.Mathlib.Omega.{arith}
+use mathlib.Core.Logic.{inl, inr}
+use Rattle.model.specs.Laws.Logic.{either}
+use Rattle.tables.specs.declared.TableInfo.{TableInfo}
+use Rattle.tables.specs.Tables.{Stands, found_row}
+use Rattle.hash_index.specs.Index.{IndexOf}
+use Rattle.commit.specs.RowLaws.{few_rows, new_stands}
+use Rattle.commit.specs.IndexedLaws.{index_of}
+use borrow.Author.Rules.{rules}
+use Rattle.commit.proofs.rows.find.Goals as goal
+
+pub look_up-requires : goal.look_up-requires
+look_up-requires c =
+    let a = c.args in
+    let p = c.requires in
+    subst (λ (t : TableInfo). Stands a.rows.now t × IndexOf a.rows.now t a.index.now) (sym c.table_of.ensures)
+    (new_stands p.0 p.1, either inl (λ q. inr (omega (arith, few_rows p.0.some p.1, p.2.few), q)) (index_of a.info a.index.now _ p.2.is))
+
+pub returns : goal.returns
+returns c =
+    let a = c.args in
+    c.look_up.ensures ∙ ap (λ (t : TableInfo). found_row a.rows.now t a.key.now) c.table_of.ensures
