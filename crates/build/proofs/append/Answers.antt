@@ -1,0 +1,5 @@
+use borrow.Author.Rules.{rules}
+use Rattle.build.proofs.append.Goals as goal
+
+pub returns : goal.returns
+returns c = rw c.push.ensures

@@ -1,0 +1,22 @@
+use Prim.Native.Nat.{◌-◌, ◌≤◌}
+use mathlib.Core.Path.{◌≡◌, refl, ◌∙◌}
+use mathlib.Core.Bool.{false}
+use native.Mathlib.Omega.{arith}
+use lib.ListN.{length, get_or}
+use Rattle.model.specs.Basics.{iter}
+use Rattle.model.specs.Laws.Iter.{iter_more}
+use Rattle.lanes.specs.Lanes.{listed}
+use Rattle.lanes.specs.PassLaws.{live_turns}
+use Rattle.execution.specs.Execution.{Logged, staged_lane, staged_lanes}
+use borrow.Author.Rules.{rules}
+use Rattle.execution.proofs.stage_lanes.Given as goal
+
+abbrev pub invariant-loop-i : goal.invariant-loop-i
+invariant-loop-i l =
+    (l.i ≤ l.n)
+    × (length l.log ≡ length l.initial.log)
+    × (l.s.used ≤ length l.initial.log)
+    × (◌≡◌ {A = Logged} (record { state = l.s; log = l.log }) (iter (λ k. staged_lane l.what.change l.what.table.0 (listed l.words l.bindings k l.what.vals) (get_or l.mask.live k false)) l.i (record { state = l.initial.s; log = l.initial.log })))
+
+abbrev pub decreases-loop-i : goal.decreases-loop-i
+decreases-loop-i l = l.n - l.i
