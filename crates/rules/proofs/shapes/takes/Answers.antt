@@ -1,0 +1,5 @@
+use borrow.Author.Rules.{rules}
+use Rattle.rules.proofs.shapes.takes.Goals as goal
+
+pub returns : goal.returns
+returns c = rw c.arity.ensures
