@@ -1,0 +1,5 @@
+use borrow.Author.Rules.{rules}
+use Rattle.predict.proofs.stop.Goals as goal
+
+pub returns : goal.returns
+returns c = rw c.stopped.ensures
