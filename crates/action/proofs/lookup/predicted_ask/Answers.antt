@@ -1,0 +1,5 @@
+use borrow.Author.Rules.{rules}
+use Rattle.action.proofs.lookup.predicted_ask.Goals as goal
+
+pub returns : goal.returns
+returns c = rw c.of.ensures
