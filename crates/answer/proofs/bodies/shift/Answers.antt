@@ -1,0 +1,23 @@
+use Rattle.answer.specs.Moved.{moved, moved_none, moved_turn, moved_all}
+use lib.ListN.{length}
+use native.Mathlib.Omega.{arith}
+use mathlib.Core.Path.{◌≡◌, ◌∙◌}
+use Prim.Native.Nat.{◌-◌, ◌≤◌}
+use borrow.Author.Rules.{rules}
+use Rattle.answer.proofs.bodies.shift.Goals as goal
+
+pub loop-i-init : goal.loop-i-init
+loop-i-init c = (search rules, search rules, moved_none c.args.answer.now c.args.n c.args.d c.requires)
+
+pub loop-i-preserved : goal.loop-i-preserved
+loop-i-preserved c =
+    let a = c.args in
+    let l = c.loop-i in
+    (search rules, search rules, moved_turn a.answer.now a.n a.d c.requires l.i l.answer l.invariant.2 c.loop-i-test.true)
+
+pub returns : goal.returns
+returns c =
+    let a = c.args in
+    let l = c.loop-i in
+    let e : l.i ≡ a.n = omega arith in
+    l.invariant.2 ∙ rw e (moved_all a.answer.now a.n a.d c.requires)
