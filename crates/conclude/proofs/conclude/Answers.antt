@@ -1,0 +1,38 @@
+use mathlib.Core.Path.{◌∙◌}
+use native.Mathlib.Omega.{arith}
+use Rattle.model.specs.Laws.Book.{few_tables, few_counters, few_rules}
+use Rattle.contents.specs.ContentsLaws.{first_step_is}
+use Rattle.execution.specs.declared.Stop.TheVariants.{Going, Spent, Full}
+use Rattle.conclude.specs.SettleLaws.{concluded_by}
+use borrow.Author.Rules.{rules}
+use Rattle.conclude.proofs.conclude.Goals as goal
+
+pub overflow_add-step : goal.overflow_add-step
+overflow_add-step c =
+    let a = c.args in
+    let pre = c.requires in
+    let w = a.words.now in
+    omega (arith, first_step_is pre.1 c.first_step.ensures, pre.2, few_tables w pre.0, few_counters w pre.0, few_rules w pre.0)
+
+pub settle-requires : goal.settle-requires
+settle-requires c =
+    let pre = c.requires in
+    (pre.0, pre.1, pre.3, pre.4 c.in-Going.is)
+
+pub returns-in-Going : goal.returns-in-Going
+returns-in-Going c =
+    let a = c.args in
+    let settle = c.settle in
+    settle.ensures ∙ concluded_by a.words.now a.p a.log.now a.tables.now a.answer.now Going c.in-Going.is
+
+pub returns-in-Spent : goal.returns-in-Spent
+returns-in-Spent c =
+    let pre = c.requires in
+    let a = c.args in
+    rw (first_step_is pre.1 c.first_step.ensures) (concluded_by a.words.now a.p a.log.now a.tables.now a.answer.now Spent c.in-Spent.is)
+
+pub returns-in-Full : goal.returns-in-Full
+returns-in-Full c =
+    let pre = c.requires in
+    let a = c.args in
+    rw (first_step_is pre.1 c.first_step.ensures) (concluded_by a.words.now a.p a.log.now a.tables.now a.answer.now Full c.in-Full.is)

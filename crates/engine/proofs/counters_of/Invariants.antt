@@ -1,0 +1,17 @@
+use mathlib.Core.Path.{◌≡◌, ap, ◌∙◌}
+use Prim.Native.Nat.{ℕ, ◌+◌, ◌-◌, ◌≤◌}
+use lib.ListN.{length, get_or, replicate, length-set, length-replicate}
+use native.Mathlib.Omega.{arith}
+use Rattle.words.specs.Filled.{filled_turn, filled}
+use Rattle.model.specs.Laws.Book.{few_tables, few_counters}
+use Rattle.engine.specs.CounterLaws.{counters_filled}
+use Rattle.model.specs.Book.Contents.{first_of}
+use Rattle.model.specs.Basics.{tab}
+use borrow.Author.Rules.{rules}
+use Rattle.engine.proofs.counters_of.Given as goal
+
+abbrev pub invariant-loop-c : goal.invariant-loop-c
+invariant-loop-c l = (l.c ≤ l.n) × (length l.next ≡ 16) × (l.next ≡ filled (λ k. get_or l.words (first_of l.words (l.tables + k)) 0) l.c l.initial.next)
+
+abbrev pub decreases-loop-c : goal.decreases-loop-c
+decreases-loop-c l = l.n - l.c

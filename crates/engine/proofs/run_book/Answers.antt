@@ -1,0 +1,55 @@
+use Prim.Native.Nat.{ℕ}
+use mathlib.Core.Path.{ap, ◌∙◌}
+use native.Mathlib.Omega.{arith}
+use lib.ListN.{length, length-replicate}
+use Rattle.model.specs.Laws.Book.{few_entries}
+use Rattle.run.specs.declared.Progress.{Progress}
+use Rattle.engine.specs.CodeLaws.{may_conclude, book_concludes}
+use borrow.Author.Rules.{rules}
+use Rattle.engine.proofs.run_book.Goals as goal
+
+pub of-contents-requires : goal.of-contents-requires
+of-contents-requires c =
+    let a = c.args in
+    let pre = c.requires in
+    few_entries a.words.now pre.0.readable
+
+pub start-requires : goal.start-requires
+start-requires c =
+    let pre = c.requires in
+    (pre.0.readable, c.of-contents.ensures)
+
+pub run_steps-p-requires : goal.run_steps-p-requires
+run_steps-p-requires c =
+    let start = c.start in
+    let p = c.requires in
+    let s = start.ensures in (
+      p.0.readable,
+      c.of-contents.ensures,
+      ap (λ (p : Progress). p.done) s,
+      ap (λ (p : Progress). p.at) s,
+      record { used = omega (arith, ap (λ (p : Progress). p.state.used) s); short = p.4; slots = ap length p.2 ∙ length-replicate {A = ℕ} 8192 0 },
+      ap length p.1 ∙ length-replicate {A = ℕ} 8192 0,
+    )
+
+pub conclude-requires : goal.conclude-requires
+conclude-requires c =
+    let start = c.start in
+    let p = c.requires in
+    let a = c.args in
+    let r = c.run_steps-p in (
+      p.0.readable,
+      c.of-contents.ensures,
+      r.ensures.fits.1,
+      p.5,
+      may_conclude a.words.now p.0 a.bindings.now a.index.now a.log.now a.answer.now p.4 p.2 p.3 p.6 _ start.ensures _ r.ensures.is r.auto.log r.ensures.fits.2 r.ensures.fits.0,
+    )
+
+pub returns : goal.returns
+returns c =
+    let start = c.start in
+    let conclude = c.conclude in
+    let p = c.requires in
+    let a = c.args in
+    let r = c.run_steps-p in
+    book_concludes a.words.now p.0 a.bindings.now a.index.now a.log.now a.answer.now p.4 p.2 p.3 p.6 _ start.ensures _ r.ensures.is r.auto.log r.auto.answer a.tables.now p.5 _ conclude.ensures
