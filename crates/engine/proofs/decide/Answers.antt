@@ -21,7 +21,7 @@ decide_book-requires c =
     let length-refusal = c.length_refusal in
     let a = c.args in
     let p = c.requires in
-    let fit = true_fit (length a.bindings.now) (length a.index.now) (length a.log.now) (length a.tables.now) (sym lengths-fit.ensures ∙ not-false _ if1.false) in
+    let fit = true_fit (length a.bindings.now) (length a.index.now) (length a.log.now) (length a.tables.now) (sym lengths-fit.ensures ∙ if1.false) in
     (sym length-refusal.ensures ∙ ap verdict_of c.in-Pass.is, zeros_as (length a.bindings.now) 8192 _ p.0 fit.0, zeros_as (length a.index.now) 8192 _ p.1 fit.1, p.2, fit.2, fit.3, p.3)
 
 pub returns-in-Pass : goal.returns-in-Pass
@@ -34,5 +34,5 @@ returns-in-Refused c =
     let lengths-fit = c.lengths_fit in
     let if1 = c.if-not-lengths_fit in
     let a = c.args in
-    decided_book (lent_of a.bindings.now a.index.now a.log.now a.tables.now a.answer.now) a.book.now a.answer.now (sym lengths-fit.ensures ∙ not-false _ if1.false) _ _
+    decided_book (lent_of a.bindings.now a.index.now a.log.now a.tables.now a.answer.now) a.book.now a.answer.now (sym lengths-fit.ensures ∙ if1.false) _ _
     (book_stop a.book.now _ (sym c.length_refusal.ensures ∙ ap verdict_of c.in-Refused.is))

@@ -67,19 +67,11 @@ returns c =
     let ws = d.new.answer in
     let lent = lent_of a.bindings.now a.index.now a.log.now a.tables.now a.answer.now in
     let same = lent_same clear.new.buf clear2.new.buf clear3.new.buf a.tables.now clear4.new.buf a.bindings.now a.index.now a.log.now a.tables.now a.answer.now bindings index log refl answer in
-     let r = (
-      left_permitted _ lent a.book.now ws d.result same d.ensures _ keep-or-clear.ensures,
-      (
-        left_answer _ lent a.book.now ws d.result same d.ensures _ keep-or-clear.ensures (d.auto.answer ∙ answer),
-        (
-          zeros_as _ _ _ clear5.ensures (d.auto.bindings ∙ bindings),
-          (
-            zeros_as _ _ _ clear6.ensures (d.auto.index ∙ index),
-            (
-              zeros_as _ _ _ clear7.ensures (d.auto.log ∙ log),
-              zeros_as _ _ _ clear8.ensures d.auto.tables,
-            ),
-          ),
-        ),
-      ),
-    ) in record { outcome = r.0; answer = r.1; bindings = r.2; index = r.3; log = r.4; tables = r.5 }
+    record {
+      outcome = left_permitted _ lent a.book.now ws d.result same d.ensures _ keep-or-clear.ensures;
+      answer = left_answer _ lent a.book.now ws d.result same d.ensures _ keep-or-clear.ensures (d.auto.answer ∙ answer);
+      bindings = zeros_as _ _ _ clear5.ensures (d.auto.bindings ∙ bindings);
+      index = zeros_as _ _ _ clear6.ensures (d.auto.index ∙ index);
+      log = zeros_as _ _ _ clear7.ensures (d.auto.log ∙ log);
+      tables = zeros_as _ _ _ clear8.ensures d.auto.tables
+    }
