@@ -1,15 +1,14 @@
 -- The index of a book's rows has those of each of its tables.
-use Rattle.std.specs.Prelude.{◌≡◌, ℕ, zero, suc, ◌+◌, ◌-◌, ◌<◌, ◌≤◌, Bool, true, false, cond, List, length, replicate, nat_le}
+use Rattle.std.specs.Prelude.{◌≡◌, ℕ, zero, suc, ◌+◌, ◌-◌, ◌<◌, ◌≤◌, Bool, true, false, cond, List, replicate, nat_le}
 use Rattle.std.proofs.Math.Path.{refl, sym, ap}
-use Rattle.std.proofs.Common.{◌∙◌, subst, inl, inr, zero-add, add-zero, arith, length-set, le-leb}
-use Rattle.std.proofs.lemmas.List.{length-replicate, get_or-replicate}
+use Rattle.std.proofs.Common.{◌∙◌, inl, inr, zero-add, add-zero, arith, le-leb}
 use Rattle.std.proofs.lemmas.Bool.{lt-leb}
 use Rattle.model.specs.Basics.{iter}
 use Rattle.model.specs.Laws.Logic.{either, le_cases}
 use Rattle.model.specs.Laws.Iter.{iter_agree}
 use Rattle.tables.specs.declared.TableInfo.{TableInfo}
 use Rattle.tables.specs.Tables.{info_of}
-use Rattle.hash_index.specs.Index.{home_in, added, rows_added, indexed, Tails, Has, IndexAmong, IndexOf}
+use Rattle.hash_index.specs.Index.{home_in, added, rows_added, indexed, Tails, IndexAmong, IndexOf}
 use Rattle.hash_index.specs.IndexLaws.{tails_none, tails_more}
 use Rattle.hash_index.specs.SearchLaws.{row_home_below}
 use Rattle.hash_index.specs.Book.{rows_before, book_indexed, BookIndex}

@@ -1,11 +1,10 @@
 -- Laws of masks: what a lane is after each operation, and each operation on the marks of a batch.
 use Rattle.std.specs.Prelude.{ℕ, zero, suc, ◌+◌, ◌-◌, ◌≤◌, ◌<◌, max, ◌≡◌, refl, ◌⊎◌, Bool, true, false, ◌||◌, not, cond, List, [], ◌∷◌, ◌++◌, eqb, ltb, length, get_or, set, replicate}
-use Rattle.std.proofs.Common.{sym, ap, ◌∙◌, inl, inr, arith, add-one, length-append, length-set, ext_get_or, get_or-set_same, get_or-set_other, lt-ltb, le-ltb, eqb-true}
+use Rattle.std.proofs.Common.{sym, ap, ◌∙◌, inl, inr, arith, add-one, length-append, length-set, ext_get_or, lt-ltb, le-ltb}
 use Rattle.std.proofs.Math.Decide.{dec_lt}
 use Rattle.std.proofs.Math.Dec.{eqb-suc-zero}
 use Rattle.std.proofs.lemmas.List.{length-replicate, get_or-replicate, set-append_left}
 use Rattle.std.proofs.Math.ListN.{get_or-eq_default}
-use Rattle.std.proofs.lemmas.Bool.{eqb-false}
 use Rattle.model.specs.Basics.{when, how_many, tab}
 use Rattle.model.specs.Machine.Steps.{any_live}
 use Rattle.model.specs.Laws.Logic.{either, le_cases, when_ind}

@@ -8,7 +8,7 @@ use Rattle.std.proofs.Math.Nat.{zero-sub}
 use Rattle.std.proofs.Math.ListN.{get_elem?}
 use Rattle.std.proofs.Math.Seq.{take-length}
 use Rattle.model.specs.Basics.{iter, join, All}
-use Rattle.model.specs.Book.Syntax.{Table, width, table_at}
+use Rattle.model.specs.Book.Syntax.{Table, table_at}
 use Rattle.model.specs.Book.Contents.{table_count}
 use Rattle.model.specs.Book.Decode.{part, read_table}
 use Rattle.model.specs.Book.Read.{tables}

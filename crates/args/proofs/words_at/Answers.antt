@@ -1,9 +1,9 @@
-use Prim.Native.Nat.{ℕ, ◌+◌, ◌-◌, ◌≤◌}
+use Prim.Native.Nat.{ℕ, ◌+◌}
 use mathlib.Core.Path.{◌≡◌, ap}
 use mathlib.Core.List.{List}
 use native.Mathlib.Omega.{arith}
-use lib.ListN.{length, get_or, replicate}
-use Rattle.words.specs.Filled.{filled, filled_none, filled_turn}
+use lib.ListN.{get_or, replicate}
+use Rattle.words.specs.Filled.{filled_none, filled_turn}
 use Rattle.args.specs.Args.{words_at}
 use borrow.Author.Rules.{rules}
 use Rattle.args.proofs.words_at.Goals as goal

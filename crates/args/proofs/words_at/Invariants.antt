@@ -1,11 +1,7 @@
-use Prim.Native.Nat.{ℕ, ◌+◌, ◌-◌, ◌≤◌}
-use mathlib.Core.Path.{◌≡◌, ap}
-use mathlib.Core.List.{List}
-use native.Mathlib.Omega.{arith}
+use Prim.Native.Nat.{◌+◌, ◌-◌, ◌≤◌}
+use mathlib.Core.Path.{◌≡◌}
 use lib.ListN.{length, get_or, replicate}
-use Rattle.words.specs.Filled.{filled, filled_none, filled_turn}
-use Rattle.args.specs.Args.{words_at}
-use borrow.Author.Rules.{rules}
+use Rattle.words.specs.Filled.{filled}
 use Rattle.args.proofs.words_at.Given as goal
 
 abbrev pub invariant-loop-i : goal.invariant-loop-i

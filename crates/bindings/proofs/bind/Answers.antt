@@ -3,7 +3,6 @@ use mathlib.Core.Path.{ap, ◌∙◌}
 use native.Mathlib.Omega.{arith}
 use lib.ListN.{length, take, length-take}
 use Rattle.bindings.specs.ColumnLaws.{bound_front}
-use borrow.Author.Rules.{rules}
 use Rattle.bindings.proofs.bind.Goals as goal
 use Rattle.bindings.proofs.bind.Goals.{After-part-front}
 

@@ -2,7 +2,6 @@ use Prim.Native.Nat.{ℕ}
 use mathlib.Core.Path.{ap}
 use mathlib.Core.List.{List}
 use Rattle.bindings.specs.Columns.{fetched}
-use borrow.Author.Rules.{rules}
 use Rattle.bindings.proofs.fetch.Goals as goal
 
 pub returns : goal.returns

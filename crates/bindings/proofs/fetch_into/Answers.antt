@@ -1,8 +1,7 @@
-use Prim.Native.Nat.{ℕ, ◌+◌, ◌-◌, ◌*◌, ◌≤◌}
+use Prim.Native.Nat.{ℕ, ◌+◌, ◌*◌}
 use mathlib.Core.Path.{◌≡◌}
 use native.Mathlib.Omega.{arith}
-use lib.ListN.{length}
-use Rattle.words.specs.Filled.{filled, filled_none, filled_turn}
+use Rattle.words.specs.Filled.{filled_none, filled_turn}
 use Rattle.bindings.specs.Columns.{value_at}
 use borrow.Author.Rules.{rules}
 use Rattle.bindings.proofs.fetch_into.Goals as goal

@@ -1,10 +1,8 @@
-use Prim.Native.Nat.{ℕ, ◌+◌, ◌-◌, ◌*◌, ◌≤◌}
+use Prim.Native.Nat.{◌+◌, ◌-◌, ◌*◌, ◌≤◌}
 use mathlib.Core.Path.{◌≡◌}
-use native.Mathlib.Omega.{arith}
 use lib.ListN.{length}
-use Rattle.words.specs.Filled.{filled, filled_none, filled_turn}
+use Rattle.words.specs.Filled.{filled}
 use Rattle.bindings.specs.Columns.{value_at}
-use borrow.Author.Rules.{rules}
 use Rattle.bindings.proofs.fetch_into.Given as goal
 
 abbrev pub invariant-loop-i : goal.invariant-loop-i

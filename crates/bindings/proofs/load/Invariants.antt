@@ -1,12 +1,7 @@
-use Rattle.bindings.specs.ColumnLaws.{rest_of, column_fits, loaded_turn}
-use Rattle.bindings.specs.Columns.{bound, loaded}
-use lib.ListN.{take, length}
-use mathlib.Core.List.{List}
-use mathlib.Core.Path.{◌∙◌, ◌≡◌, refl, ap}
-use native.Mathlib.Nat.{suc-mul}
-use Prim.Native.Nat.{ℕ, ◌+◌, ◌-◌, ◌*◌, ◌≤◌}
-use native.Mathlib.Omega.{arith}
-use borrow.Author.Rules.{rules}
+use Rattle.bindings.specs.Columns.{loaded}
+use lib.ListN.{length}
+use mathlib.Core.Path.{◌≡◌}
+use Prim.Native.Nat.{◌+◌, ◌-◌, ◌*◌, ◌≤◌}
 use Rattle.bindings.proofs.load.Given as goal
 
 abbrev pub invariant-loop-c : goal.invariant-loop-c

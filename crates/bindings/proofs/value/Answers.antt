@@ -3,7 +3,6 @@ use native.Mathlib.Omega.{arith}
 use lib.ListN.{get_or-eq_default}
 use Rattle.bindings.specs.ColumnLaws.{const_entry}
 use Rattle.bindings.specs.Columns.{value_at}
-use borrow.Author.Rules.{rules}
 use Rattle.bindings.proofs.value.Goals as goal
 
 pub returns-then-tag-eq0 : goal.returns-then-tag-eq0

@@ -1,13 +1,11 @@
-use Prim.Native.Nat.{ℕ, ◌+◌, ◌≤◌, ◌<◌, ◌-◌}
+use Prim.Native.Nat.{ℕ, ◌+◌}
 use mathlib.Core.Path.{◌≡◌, refl, sym, ap, ◌∙◌}
-use mathlib.Core.Bool.{true}
 use native.Mathlib.Numerals.{add-one}
 use native.Mathlib.Omega.{arith}
-use borrow.Author.Tests.{not-true, not-false}
 use borrow.Author.Count.{below_more}
-use lib.ListN.{get_or, length, length-set}
-use Rattle.model.specs.Book.Contents.{group, last_group, begins, entry_fits}
-use Rattle.contents.specs.ContentsLaws.{Counts, no_counts, small_count, more_counts, entry_test, count_true, count_0, count_129, count_past, refuse_count, refuse_entry, refuse_end, pass}
+use lib.ListN.{get_or, length-set}
+use Rattle.model.specs.Book.Contents.{group, begins, entry_fits}
+use Rattle.contents.specs.ContentsLaws.{no_counts, small_count, more_counts, entry_test, count_true, count_0, count_129, count_past, refuse_count, refuse_entry, refuse_end, pass}
 use borrow.Author.Rules.{rules}
 use Rattle.contents.proofs.check.Goals as goal
 use Rattle.contents.proofs.check.Goals.{After-fits}

@@ -1,5 +1,4 @@
 use Rattle.contents.specs.ContentsLaws.{falls, unknown, no_room, by_place}
-use borrow.Author.Rules.{rules}
 use Rattle.contents.proofs.fits.Goals as goal
 
 pub returns-then-g-last : goal.returns-then-g-last

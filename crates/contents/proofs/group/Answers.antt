@@ -1,7 +1,6 @@
 use native.Mathlib.Omega.{arith}
 use Rattle.model.specs.Laws.Iter.{above}
 use Rattle.contents.specs.ContentsLaws.{group_rest}
-use borrow.Author.Rules.{rules}
 use Rattle.contents.proofs.group.Goals as goal
 
 pub returns-in_default : goal.returns-in_default

@@ -1,8 +1,6 @@
-use Prim.Native.Nat.{◌≤◌, ◌-◌}
 use mathlib.Core.Path.{◌≡◌, sym, ap, ◌∙◌}
-use mathlib.Core.Logic.{⊎_elim}
 use native.Mathlib.Omega.{arith}
-use Rattle.model.specs.Book.Contents.{group, members}
+use Rattle.model.specs.Book.Contents.{group}
 use Rattle.contents.specs.ContentsLaws.{count_yes, count_no, count_small, none_counted}
 use borrow.Author.Rules.{rules}
 use Rattle.contents.proofs.members.Goals as goal
@@ -25,11 +23,10 @@ pub loop-i-preserved : goal.loop-i-preserved
 loop-i-preserved c =
     let a = c.args in
     let l = c.loop-i in
-    let e = c.group-k.ensures.0 ∙ ap group c.kind_of.ensures in
-    (
+    let e = c.group-k.ensures.0 ∙ ap group c.kind_of.ensures in (
       search rules,
       elim c.if-k-g.branch [
-        then-k-g v ↦ v.c-is ∙ count_yes a.words.now a.g l.i l.c l.invariant.1 (sym e ∙ v.if-k-g.true)
-      | else-k-g v ↦ v.c-is ∙ count_no a.words.now a.g l.i l.c l.invariant.1 (λ q. v.if-k-g.false (e ∙ q))
+        | then-k-g v ↦ v.c-is ∙ count_yes a.words.now a.g l.i l.c l.invariant.1 (sym e ∙ v.if-k-g.true)
+        | else-k-g v ↦ v.c-is ∙ count_no a.words.now a.g l.i l.c l.invariant.1 (λ q. v.if-k-g.false (e ∙ q))
       ],
     )

@@ -1,10 +1,6 @@
 use Prim.Native.Nat.{◌≤◌, ◌-◌}
-use mathlib.Core.Path.{◌≡◌, sym, ap, ◌∙◌}
-use mathlib.Core.Logic.{⊎_elim}
-use native.Mathlib.Omega.{arith}
-use Rattle.model.specs.Book.Contents.{group, members}
-use Rattle.contents.specs.ContentsLaws.{count_yes, count_no, count_small, none_counted}
-use borrow.Author.Rules.{rules}
+use mathlib.Core.Path.{◌≡◌}
+use Rattle.model.specs.Book.Contents.{members}
 use Rattle.contents.proofs.members.Given as goal
 
 abbrev pub invariant-loop-i : goal.invariant-loop-i

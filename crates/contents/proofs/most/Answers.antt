@@ -1,6 +1,5 @@
 use Rattle.model.specs.Laws.Iter.{above}
 use Rattle.contents.specs.ContentsLaws.{most_rest}
-use borrow.Author.Rules.{rules}
 use Rattle.contents.proofs.most.Goals as goal
 
 pub returns-in_default : goal.returns-in_default

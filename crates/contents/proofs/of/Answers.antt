@@ -1,6 +1,5 @@
 use mathlib.Core.Path.{ap, ◌∙◌}
 use Rattle.model.specs.Book.Contents.{members}
-use borrow.Author.Rules.{rules}
 use Rattle.contents.proofs.of.Goals as goal
 
 pub returns : goal.returns

@@ -1,5 +1,4 @@
 use borrow.Author.Tests.{le-leb, lt-leb}
-use borrow.Author.Rules.{rules}
 use Rattle.functions.proofs.sum.Goals as goal
 
 pub returns-then-s-le4294967294 : goal.returns-then-s-le4294967294

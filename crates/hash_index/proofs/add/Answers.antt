@@ -1,4 +1,4 @@
-use Rattle.std.proofs.Common.{arith, length-set, rules}
+use Rattle.std.proofs.Common.{arith, length-set}
 use Rattle.hash_index.specs.Index.{added}
 use Rattle.hash_index.proofs.add.Goals as goal
 

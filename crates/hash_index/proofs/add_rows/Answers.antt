@@ -1,8 +1,7 @@
-use Rattle.std.proofs.Common.{◌≡◌, ℕ, ◌+◌, ◌-◌, ◌≤◌, sym, refl, ap, ◌∙◌, add-zero, arith, rules}
+use Rattle.std.proofs.Common.{◌≡◌, ℕ, ◌+◌, sym, refl, ap, ◌∙◌, add-zero, arith, rules}
 use Rattle.model.specs.Laws.Iter.{iter_more}
-use Rattle.tables.specs.Tables.{row_at}
 use Rattle.tables.specs.TablesLaws.{next_row, row_within}
-use Rattle.hash_index.specs.Index.{home_at, home_in, added, rows_added, Tails}
+use Rattle.hash_index.specs.Index.{home_at, home_in, added, rows_added}
 use Rattle.hash_index.specs.IndexLaws.{tails_more}
 use Rattle.hash_index.specs.SearchLaws.{row_home_below}
 use Rattle.hash_index.proofs.add_rows.Goals as goal

@@ -1,4 +1,4 @@
-use Rattle.std.proofs.Common.{sym, ap, ◌∙◌, subst, arith, rules}
+use Rattle.std.proofs.Common.{sym, ap, ◌∙◌, subst, arith}
 use Rattle.hash_index.specs.Index.{rows_added, Tails}
 use Rattle.hash_index.specs.IndexLaws.{tails_none}
 use Rattle.hash_index.specs.BookLaws.{rows_alone}

@@ -1,4 +1,4 @@
-use Rattle.std.proofs.Common.{arith, rules}
+use Rattle.std.proofs.Common.{arith}
 use Rattle.hash_index.specs.IndexLaws.{end_head, end_link}
 use Rattle.hash_index.proofs.end_of.Goals as goal
 

@@ -1,8 +1,7 @@
-use Rattle.std.proofs.Common.{sym, ap, ◌∙◌, arith, rules}
+use Rattle.std.proofs.Common.{sym, ap, ◌∙◌, arith}
 use Rattle.tables.specs.declared.Found.TheVariants.{At}
 use Rattle.tables.specs.TablesLaws.{found_nothing}
-use Rattle.hash_index.specs.Index.{Has}
-use Rattle.hash_index.specs.SearchLaws.{left, Reached, reached_head, none_left, standing, row_told_lem, first_row, has_length}
+use Rattle.hash_index.specs.SearchLaws.{reached_head, none_left, standing, row_told_lem, first_row, has_length}
 use Rattle.hash_index.proofs.find.Goals as goal
 
 pub bounds-index-home : goal.bounds-index-home

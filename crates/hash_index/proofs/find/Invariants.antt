@@ -1,8 +1,5 @@
-use Rattle.std.proofs.Common.{sym, ap, ◌∙◌, arith, rules}
-use Rattle.tables.specs.declared.Found.TheVariants.{At}
-use Rattle.tables.specs.TablesLaws.{found_nothing}
 use Rattle.hash_index.specs.Index.{Has}
-use Rattle.hash_index.specs.SearchLaws.{left, Reached, reached_head, none_left, standing, row_told_lem, first_row, has_length}
+use Rattle.hash_index.specs.SearchLaws.{left, Reached}
 use Rattle.hash_index.proofs.find.Given as goal
 
 abbrev pub invariant-loop-p : goal.invariant-loop-p

@@ -1,4 +1,4 @@
-use Rattle.std.proofs.Common.{◌≡◌, ℕ, ◌+◌, ◌-◌, ◌/◌, ◌≤◌, get_or, ap, ◌∙◌, arith, rules}
+use Rattle.std.proofs.Common.{◌≡◌, ℕ, ◌+◌, ◌/◌, get_or, ap, ◌∙◌, arith, rules}
 use Rattle.model.specs.Basics.{tab}
 use Rattle.hash_index.specs.Fold.{folded}
 use Rattle.hash_index.specs.FoldLaws.{folded_none, folded_more}

@@ -1,9 +1,6 @@
-use Rattle.std.proofs.Common.{◌≡◌, ℕ, ◌+◌, ◌-◌, ◌/◌, ◌≤◌, get_or, ap, ◌∙◌, arith, rules}
+use Rattle.std.proofs.Common.{◌≡◌, ◌+◌, ◌-◌, ◌≤◌, get_or}
 use Rattle.model.specs.Basics.{tab}
 use Rattle.hash_index.specs.Fold.{folded}
-use Rattle.hash_index.specs.FoldLaws.{folded_none, folded_more}
-use Rattle.hash_index.specs.Index.{home_of, home_at}
-use Rattle.hash_index.specs.SearchLaws.{home_below}
 use Rattle.hash_index.proofs.home.Given as goal
 
 abbrev pub invariant-loop-i : goal.invariant-loop-i

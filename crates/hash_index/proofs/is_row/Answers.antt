@@ -1,4 +1,4 @@
-use Rattle.std.proofs.Common.{◌-◌, arith, rules, le-ltb, lt-ltb, le-leb}
+use Rattle.std.proofs.Common.{◌-◌, arith, le-ltb, lt-ltb, le-leb}
 use borrow.Author.Tests.{lt-leb}
 use Rattle.tables.specs.TablesLaws.{row_within}
 use Rattle.hash_index.specs.Index.{is_row}

@@ -1,5 +1,4 @@
 use Rattle.hash_index.specs.BookLaws.{among_alone}
-use Rattle.std.proofs.Common.{rules}
 use Rattle.hash_index.proofs.look_up.Goals as goal
 
 pub look_up_among-requires : goal.look_up_among-requires

@@ -1,5 +1,4 @@
 use Rattle.model.specs.Laws.Logic.{either}
-use Rattle.std.proofs.Common.{rules}
 use Rattle.hash_index.proofs.look_up_among.Goals as goal
 
 pub find-requires-2 : goal.find-requires-2

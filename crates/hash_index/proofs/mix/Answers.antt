@@ -1,4 +1,4 @@
-use Rattle.std.proofs.Common.{ap, ◌∙◌, rules}
+use Rattle.std.proofs.Common.{ap, ◌∙◌}
 use Rattle.hash_index.specs.Fold.{spun}
 use Rattle.hash_index.proofs.mix.Goals as goal
 

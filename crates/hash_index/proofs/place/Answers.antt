@@ -1,4 +1,4 @@
-use Rattle.std.proofs.Common.{◌-◌, arith, rules}
+use Rattle.std.proofs.Common.{◌-◌, arith}
 use Rattle.tables.specs.TablesLaws.{row_within}
 use Rattle.hash_index.proofs.place.Goals as goal
 

@@ -1,5 +1,4 @@
 use Rattle.model.specs.Basics.{tab}
-use borrow.Author.Rules.{rules}
 use Rattle.instr.proofs.instr_at.Goals as goal
 
 pub returns : goal.returns
@@ -8,4 +7,3 @@ returns c =
     let parts_at = c.parts_at in
     let word = c.word in
     rw (c.instr_of.ensures, parts_at.ensures.all, word.ensures)
-

@@ -1,6 +1,5 @@
 use mathlib.Core.Path.{refl}
 use Rattle.instr.specs.InstrLaws.{instr_arm, instr_rest}
-use borrow.Author.Rules.{rules}
 use Rattle.instr.proofs.instr_of.Goals as goal
 
 pub returns-in-1 : goal.returns-in-1

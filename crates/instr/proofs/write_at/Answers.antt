@@ -1,6 +1,5 @@
 use Rattle.instr.specs.Instr.{write_by}
 use Rattle.instr.specs.InstrLaws.{write_rest}
-use borrow.Author.Rules.{rules}
 use Rattle.instr.proofs.write_at.Goals as goal
 
 pub returns-in-0 : goal.returns-in-0

@@ -1,6 +1,5 @@
 use mathlib.Core.Path.{◌∙◌}
 use Rattle.predicted_index.specs.Index.{slot_of}
-use borrow.Author.Rules.{rules}
 use Rattle.predicted_index.proofs.get.Goals as goal
 
 pub returns : goal.returns

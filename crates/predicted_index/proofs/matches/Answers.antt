@@ -1,6 +1,5 @@
 use borrow.Author.Tests.{le-leb, lt-leb, eq-eqb, ne_eqb}
 use Rattle.predicted_index.specs.Index.{answers}
-use borrow.Author.Rules.{rules}
 use Rattle.predicted_index.proofs.matches.Goals as goal
 
 pub returns-then-log-v : goal.returns-then-log-v

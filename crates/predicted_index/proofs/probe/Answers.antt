@@ -1,9 +1,9 @@
-use mathlib.Core.Path.{◌≡◌, sym, ap, ◌∙◌}
-use Prim.Native.Nat.{ℕ, ◌≤◌, ◌<◌, ◌-◌}
+use mathlib.Core.Path.{sym, ap, ◌∙◌}
+use Prim.Native.Nat.{ℕ, ◌-◌}
 use native.Mathlib.Nat.{sub-zero}
 use native.Mathlib.Omega.{arith}
 use Rattle.predicted_index.specs.declared.Slot.TheVariants.{Hit}
-use Rattle.predicted_index.specs.Index.{probed, answers}
+use Rattle.predicted_index.specs.Index.{answers}
 use Rattle.predicted_index.specs.IndexLaws.{probe_free, probe_hit, probe_on, probe_none}
 use borrow.Author.Rules.{rules}
 use Rattle.predicted_index.proofs.probe.Goals as goal
@@ -26,7 +26,7 @@ returns-then-matches c =
     record {
       is = ap (λ (x : ℕ). Hit (x - 1)) v
           ∙ sym (l.invariant.2 ∙ probe_hit a.index.now (answers a.log.now a.table.0 a.key.now a.k) 8192 l.j l.s loop-test.true (rw v at c.if-v-eq0.false) (ap (answers a.log.now a.table.0 a.key.now a.k) (sym v) ∙ sym c.matches.ensures ∙ c.if-matches.true));
-      small = omega arith
+      small = omega arith;
     }
 
 pub loop-j-preserved : goal.loop-j-preserved

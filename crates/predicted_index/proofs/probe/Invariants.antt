@@ -1,11 +1,6 @@
-use mathlib.Core.Path.{◌≡◌, sym, ap, ◌∙◌}
-use Prim.Native.Nat.{ℕ, ◌≤◌, ◌<◌, ◌-◌}
-use native.Mathlib.Nat.{sub-zero}
-use native.Mathlib.Omega.{arith}
-use Rattle.predicted_index.specs.declared.Slot.TheVariants.{Hit}
+use mathlib.Core.Path.{◌≡◌}
+use Prim.Native.Nat.{◌≤◌, ◌<◌, ◌-◌}
 use Rattle.predicted_index.specs.Index.{probed, answers}
-use Rattle.predicted_index.specs.IndexLaws.{probe_free, probe_hit, probe_on, probe_none}
-use borrow.Author.Rules.{rules}
 use Rattle.predicted_index.proofs.probe.Given as goal
 
 abbrev pub invariant-loop-j : goal.invariant-loop-j

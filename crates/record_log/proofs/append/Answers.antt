@@ -5,13 +5,12 @@ use native.Mathlib.Omega.{arith}
 use Rattle.record_log.specs.declared.Appended.TheVariants.{Used}
 use Rattle.record_log.specs.Log.{record_of}
 use Rattle.record_log.specs.LogLaws.{length_record, store_record, no_room, room}
-use borrow.Author.Rules.{rules}
 use Rattle.record_log.proofs.append.Goals as goal
 
 pub returns-then-log-end : goal.returns-then-log-end
 returns-then-log-end c =
     let a = c.args in
-     let r = no_room a.log.now a.used (record_of a.kind a.table.0 a.row.now a.count) (omega (arith, length_record a.kind a.table.0 a.row.now a.count, c.if-log-end.true)) in record { answer = r.0; log = r.1 }
+    let r = no_room a.log.now a.used (record_of a.kind a.table.0 a.row.now a.count) (omega (arith, length_record a.kind a.table.0 a.row.now a.count, c.if-log-end.true)) in record { answer = r.0; log = r.1 }
 
 pub bounds-log-used-2 : goal.bounds-log-used-2
 bounds-log-used-2 c = simp length-set (omega arith)

@@ -5,7 +5,6 @@ use Rattle.model.specs.Book.Contents.{first_of}
 use Rattle.tables.specs.declared.TableInfo.{TableInfo}
 use borrow.Author.Tests.{ne_eqb}
 use Rattle.record_log.specs.Walk.{end_of}
-use borrow.Author.Rules.{rules}
 use Rattle.record_log.proofs.end_of.Goals as goal
 
 pub overflow_add-result-then-kind-eq1 : goal.overflow_add-result-then-kind-eq1

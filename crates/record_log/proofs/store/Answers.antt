@@ -1,7 +1,7 @@
-use Prim.Native.Nat.{◌+◌, ℕ, ◌≤◌, ◌-◌}
+use Prim.Native.Nat.{◌+◌, ℕ}
 use mathlib.Core.Path.{◌≡◌, ap, ◌∙◌}
 use mathlib.Core.List.{List}
-use lib.ListN.{length, get_or, set}
+use lib.ListN.{get_or, set}
 use lib.Seq.{sets}
 use native.Mathlib.Omega.{arith}
 use Rattle.model.specs.Basics.{tab}

@@ -1,12 +1,8 @@
-use Prim.Native.Nat.{◌+◌, ℕ, ◌≤◌, ◌-◌}
-use mathlib.Core.Path.{◌≡◌, ap, ◌∙◌}
-use mathlib.Core.List.{List}
-use lib.ListN.{length, get_or, set}
+use Prim.Native.Nat.{◌≤◌, ◌-◌}
+use mathlib.Core.Path.{◌≡◌}
+use lib.ListN.{length, get_or}
 use lib.Seq.{sets}
-use native.Mathlib.Omega.{arith}
 use Rattle.model.specs.Basics.{tab}
-use Rattle.record_log.specs.LogLaws.{store_more}
-use borrow.Author.Rules.{rules}
 use Rattle.record_log.proofs.store.Given as goal
 
 abbrev pub invariant-loop-i : goal.invariant-loop-i

@@ -1,10 +1,7 @@
 use Rattle.tables.specs.declared.Found.TheVariants.{At}
-use Prim.Native.Nat.{ℕ, ◌+◌, ◌*◌, ◌≤◌, ◌<◌, ◌-◌}
 use mathlib.Core.Path.{◌≡◌, sym, ap, ◌∙◌}
-use mathlib.Core.Bool.{false}
 use native.Mathlib.Omega.{arith}
 use borrow.Author.Count.{below_more}
-use Rattle.tables.specs.Tables.{same_words}
 use Rattle.tables.specs.TablesLaws.{next_row, row_within, found_at, found_nothing}
 use borrow.Author.Rules.{rules}
 use Rattle.tables.proofs.find.Goals as goal

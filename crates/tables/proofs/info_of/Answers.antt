@@ -1,6 +1,5 @@
 use mathlib.Core.Path.{ap, ◌∙◌}
 use Rattle.tables.specs.Tables.{info_at}
-use borrow.Author.Rules.{rules}
 use Rattle.tables.proofs.info_of.Goals as goal
 
 pub returns : goal.returns

@@ -1,9 +1,8 @@
 use mathlib.Core.Path.{refl, ◌≡◌}
-use Prim.Native.Nat.{◌≤◌, ◌-◌}
 use native.Mathlib.Omega.{arith}
 use lib.ListN.{get_or, replicate}
 use Rattle.model.specs.Basics.{tab}
-use Rattle.words.specs.Filled.{filled, filled_turn}
+use Rattle.words.specs.Filled.{filled_turn}
 use borrow.Author.Rules.{rules}
 use Rattle.tables.proofs.key_of.Goals as goal
 

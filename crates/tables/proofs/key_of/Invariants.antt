@@ -1,10 +1,7 @@
-use mathlib.Core.Path.{refl, ◌≡◌}
+use mathlib.Core.Path.{◌≡◌}
 use Prim.Native.Nat.{◌≤◌, ◌-◌}
-use native.Mathlib.Omega.{arith}
 use lib.ListN.{get_or, replicate}
-use Rattle.model.specs.Basics.{tab}
-use Rattle.words.specs.Filled.{filled, filled_turn}
-use borrow.Author.Rules.{rules}
+use Rattle.words.specs.Filled.{filled}
 use Rattle.tables.proofs.key_of.Given as goal
 
 abbrev pub invariant-loop-i : goal.invariant-loop-i

@@ -1,6 +1,4 @@
-use Prim.Native.Nat.{ℕ, ◌+◌, ◌≤◌, ◌<◌, ◌-◌}
 use mathlib.Core.Path.{◌≡◌, sym}
-use lib.ListN.{get_or}
 use native.Mathlib.Omega.{arith}
 use borrow.Author.Count.{below_more}
 use Rattle.tables.specs.TablesLaws.{same_all, same_not}

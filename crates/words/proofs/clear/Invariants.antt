@@ -1,11 +1,7 @@
-use mathlib.Core.Path.{◌≡◌, ap, ◌∙◌}
-use mathlib.Core.List.{List, ◌++◌, append-nil}
-use Prim.Native.Nat.{ℕ, ◌≤◌, ◌-◌}
-use lib.ListN.{length, replicate, drop, set}
-use lib.Seq.{drop-length}
-use native.Mathlib.Omega.{arith}
-use borrow.Author.Fill.{fill_more}
-use borrow.Author.Rules.{rules}
+use mathlib.Core.Path.{◌≡◌}
+use mathlib.Core.List.{◌++◌}
+use Prim.Native.Nat.{◌≤◌, ◌-◌}
+use lib.ListN.{length, replicate, drop}
 use Rattle.words.proofs.clear.Given as goal
 
 abbrev pub invariant-loop-i : goal.invariant-loop-i

@@ -1,13 +1,8 @@
-use Rattle.words.specs.Filled.{filled_turn}
-use mathlib.Core.Path.{◌≡◌, ap, ◌∙◌}
-use Prim.Native.Nat.{ℕ, ◌≤◌, ◌-◌}
+use mathlib.Core.Path.{◌≡◌}
+use Prim.Native.Nat.{◌≤◌, ◌-◌}
 use lib.ListN.{length}
-use native.Mathlib.Omega.{arith}
-use Rattle.model.specs.Basics.{tab}
 use Rattle.words.specs.Filled.{filled}
-use Rattle.words.specs.Filled.{filled_all}
 use Rattle.model.specs.Laws.Words.{word_at}
-use borrow.Author.Rules.{rules}
 use Rattle.words.proofs.load.Given as goal
 
 abbrev pub invariant-loop-i : goal.invariant-loop-i

@@ -4,7 +4,6 @@ use native.Mathlib.Nat.{add-sub_cancel_left}
 use native.Mathlib.Omega.{arith}
 use lib.ListN.{length, take, drop, length-drop, drop_of_length-le}
 use lib.Seq.{take_all, take-nil}
-use borrow.Author.Rules.{rules}
 use Rattle.words.proofs.part.Goals as goal
 
 pub returns-then-len-at : goal.returns-then-len-at

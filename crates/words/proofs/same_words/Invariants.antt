@@ -1,11 +1,7 @@
-use mathlib.Core.Bool.{false≢true}
-use native.Mathlib.Omega.{arith}
-use mathlib.Core.Path.{◌≡◌, refl, sym, ◌∙◌}
+use mathlib.Core.Path.{◌≡◌}
 use Prim.Native.Nat.{ℕ, ◌+◌, ◌<◌, ◌≤◌, ◌-◌}
 use lib.ListN.{get_or, length}
-use borrow.Author.Count.{below_more}
 use Rattle.model.specs.Book.Words.{words_of}
-use borrow.Author.Rules.{rules}
 use Rattle.words.proofs.same_words.Given as goal
 
 abbrev pub invariant-loop-i : goal.invariant-loop-i

@@ -1,6 +1,5 @@
 use borrow.Author.Tests.{lt-ltb, le-ltb}
 use Rattle.args.specs.Args.{pushed}
-use borrow.Author.Rules.{rules}
 use Rattle.args.proofs.Args.push.Goals as goal
 
 pub returns-then-n-lt16 : goal.returns-then-n-lt16

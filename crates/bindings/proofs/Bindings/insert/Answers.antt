@@ -1,4 +1,3 @@
-use borrow.Author.Rules.{rules}
 use Rattle.bindings.proofs.Bindings.insert.Goals as goal
 
 pub returns : goal.returns

@@ -1,4 +1,3 @@
-use borrow.Author.Rules.{rules}
 use Rattle.bound_vars.proofs.Bound.bind.Goals as goal
 
 pub returns : goal.returns

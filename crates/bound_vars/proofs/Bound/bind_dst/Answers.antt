@@ -1,2 +1,0 @@
-use borrow.Author.Rules.{rules}
-use Rattle.bound_vars.proofs.Bound.bind_dst.Goals as goal

@@ -1,10 +1,10 @@
-use Prim.Native.Nat.{ℕ, ◌≤◌, ◌-◌}
+use Prim.Native.Nat.{ℕ}
 use mathlib.Core.Bool.{Bool, false}
 use mathlib.Core.List.{List}
 use mathlib.Core.Path.{◌≡◌, refl, ap, ◌∙◌}
 use native.Mathlib.Omega.{arith}
 use lib.Dec.{ltb}
-use lib.ListN.{replicate, length-set, length}
+use lib.ListN.{replicate, length-set}
 use Rattle.words.specs.Filled.{filled, filled_none, filled_turn, filled_all}
 use borrow.Author.Rules.{rules}
 use Rattle.bound_vars.proofs.Bound.first.Goals as goal

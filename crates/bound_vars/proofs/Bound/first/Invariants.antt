@@ -1,12 +1,8 @@
-use Prim.Native.Nat.{ℕ, ◌≤◌, ◌-◌}
-use mathlib.Core.Bool.{Bool, false}
-use mathlib.Core.List.{List}
-use mathlib.Core.Path.{◌≡◌, refl, ap, ◌∙◌}
-use native.Mathlib.Omega.{arith}
+use Prim.Native.Nat.{◌≤◌, ◌-◌}
+use mathlib.Core.Path.{◌≡◌}
 use lib.Dec.{ltb}
-use lib.ListN.{replicate, length-set, length}
-use Rattle.words.specs.Filled.{filled, filled_none, filled_turn, filled_all}
-use borrow.Author.Rules.{rules}
+use lib.ListN.{length}
+use Rattle.words.specs.Filled.{filled}
 use Rattle.bound_vars.proofs.Bound.first.Given as goal
 
 abbrev pub invariant-loop-v : goal.invariant-loop-v

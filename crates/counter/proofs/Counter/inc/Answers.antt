@@ -1,6 +1,5 @@
 use borrow.Author.Tests.{lt-ltb, le-ltb}
 use native.Mathlib.Numerals.{add-one}
-use borrow.Author.Rules.{rules}
 use Rattle.counter.proofs.Counter.inc.Goals as goal
 
 pub returns-then-next-lt4294967294 : goal.returns-then-next-lt4294967294

@@ -1,4 +1,4 @@
-use Rattle.std.proofs.Common.{◌≡◌, ℕ, ◌-◌, ◌≤◌, length, sym, refl, ap, ◌∙◌, add-one, arith, rules}
+use Rattle.std.proofs.Common.{◌≡◌, ℕ, length, sym, refl, ap, ◌∙◌, add-one, arith, rules}
 use lib.ListN.{length-replicate}
 use Rattle.tables.specs.declared.TableInfo.{TableInfo}
 use Rattle.hash_index.specs.Book.{rows_before, book_indexed}

@@ -1,8 +1,5 @@
-use Rattle.std.proofs.Common.{◌≡◌, ℕ, ◌-◌, ◌≤◌, length, sym, refl, ap, ◌∙◌, add-one, arith, rules}
-use lib.ListN.{length-replicate}
-use Rattle.tables.specs.declared.TableInfo.{TableInfo}
+use Rattle.std.proofs.Common.{◌≡◌, ◌-◌, ◌≤◌}
 use Rattle.hash_index.specs.Book.{rows_before, book_indexed}
-use Rattle.hash_index.specs.BookLaws.{before_within, book_tails}
 use Rattle.hash_index.proofs.all_tables.build_all.Given as goal
 
 abbrev pub invariant-loop-t : goal.invariant-loop-t

@@ -1,4 +1,4 @@
-use Prim.Native.Nat.{◌+◌, ◌*◌, ◌-◌, ◌≤◌}
+use Prim.Native.Nat.{◌+◌}
 use mathlib.Core.Path.{◌≡◌, sym, ap, ◌∙◌}
 use mathlib.Core.List.{List, map}
 use native.Mathlib.Omega.{arith}
@@ -8,7 +8,7 @@ use lib.Seq.{take_all}
 use Rattle.model.specs.Basics.{tab}
 use Rattle.model.specs.Book.Layout.{Field}
 use Rattle.model.specs.Book.Decode.{past, fields_at, next}
-use Rattle.words.specs.Filled.{filled, filled_more}
+use Rattle.words.specs.Filled.{filled_more}
 use Rattle.instr.specs.Fields.{fields_of, past_field, part_at}
 use Rattle.instr.specs.declared.layout.Field.TheVariants.{Nothing}
 use Rattle.instr.specs.declared.layout.Part.{Part}
@@ -45,4 +45,3 @@ returns c =
     let part : List Field → Part = λ gs. part_at w (past w gs (a.p + 1)) in
     let whole : fields_of (take 6 fs.result) ≡ fields_at w a.p = ap fields_of (take_all 6 fs.result (omega arith)) ∙ rw word.ensures at fs.ensures.all in
     record { all = rw e at l.invariant.3 ∙ ap (map part) (rw word.ensures at fs.ensures.firsts); past = (rw e at l.invariant.2) ∙ ap (λ (gs : List Field). past w gs (a.p + 1)) whole }
-

@@ -1,19 +1,9 @@
 use Prim.Native.Nat.{◌+◌, ◌*◌, ◌-◌, ◌≤◌}
-use mathlib.Core.Path.{◌≡◌, sym, ap, ◌∙◌}
-use mathlib.Core.List.{List, map}
-use native.Mathlib.Omega.{arith}
-use native.Mathlib.Numerals.{add-one}
-use lib.ListN.{length, get_or, take}
-use lib.Seq.{take_all}
-use Rattle.model.specs.Basics.{tab}
-use Rattle.model.specs.Book.Layout.{Field}
-use Rattle.model.specs.Book.Decode.{past, fields_at, next}
-use Rattle.words.specs.Filled.{filled, filled_more}
-use Rattle.instr.specs.Fields.{fields_of, past_field, part_at}
-use Rattle.instr.specs.declared.layout.Field.TheVariants.{Nothing}
-use Rattle.instr.specs.declared.layout.Part.{Part}
-use Rattle.instr.specs.FieldLaws.{past_more}
-use borrow.Author.Rules.{rules}
+use mathlib.Core.Path.{◌≡◌}
+use lib.ListN.{length, take}
+use Rattle.model.specs.Book.Decode.{past}
+use Rattle.words.specs.Filled.{filled}
+use Rattle.instr.specs.Fields.{fields_of, part_at}
 use Rattle.instr.proofs.layout.parts_at.Given as goal
 
 abbrev pub invariant-loop-k : goal.invariant-loop-k

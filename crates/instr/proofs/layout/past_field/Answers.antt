@@ -1,12 +1,12 @@
 use Prim.Native.Nat.{ℕ, ◌+◌, ◌*◌}
-use mathlib.Core.Path.{◌≡◌, refl, ◌∙◌}
-use mathlib.Core.List.{List, [], ◌∷◌}
+use mathlib.Core.Path.{◌≡◌}
+use mathlib.Core.List.{List}
 use mathlib.Core.Logic.{◌⊎◌, inl, inr}
 use borrow.Author.Rules.{rules}
 use lib.ListN.{get_or}
 use Rattle.model.specs.Book.Decode.{after}
 use Rattle.instr.specs.declared.layout.Field.{Field}
-use Rattle.instr.specs.declared.layout.Field.TheVariants.{Nothing, Table, Counter, Function, Dst, Column, Divider, Entry, Entries, Writes}
+use Rattle.instr.specs.declared.layout.Field.TheVariants.{Table, Counter, Function, Dst, Column, Divider, Entries, Writes}
 use Rattle.instr.specs.Fields.{past_field}
 use Rattle.instr.proofs.layout.past_field.Goals as goal
 

@@ -1,9 +1,7 @@
-use Prim.Native.Nat.{◌-◌, ◌≤◌}
 use mathlib.Core.Path.{◌≡◌}
-use mathlib.Core.Bool.{false}
 use native.Mathlib.Omega.{arith}
-use lib.ListN.{length, get_or}
-use Rattle.words.specs.Filled.{filled, filled_none}
+use lib.ListN.{length}
+use Rattle.words.specs.Filled.{filled_none}
 use Rattle.mask.specs.Masks.{but_not}
 use Rattle.mask.specs.MaskLaws.{both_turn, both_all}
 use borrow.Author.Rules.{rules}

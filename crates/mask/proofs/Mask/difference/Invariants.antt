@@ -1,12 +1,9 @@
 use Prim.Native.Nat.{◌-◌, ◌≤◌}
 use mathlib.Core.Path.{◌≡◌}
 use mathlib.Core.Bool.{false}
-use native.Mathlib.Omega.{arith}
 use lib.ListN.{length, get_or}
-use Rattle.words.specs.Filled.{filled, filled_none}
+use Rattle.words.specs.Filled.{filled}
 use Rattle.mask.specs.Masks.{but_not}
-use Rattle.mask.specs.MaskLaws.{both_turn, both_all}
-use borrow.Author.Rules.{rules}
 use Rattle.mask.proofs.Mask.difference.Given as goal
 
 abbrev pub invariant-loop-i : goal.invariant-loop-i

@@ -1,9 +1,9 @@
-use Prim.Native.Nat.{◌+◌, ◌-◌, ◌≤◌}
+use Prim.Native.Nat.{◌+◌}
 use mathlib.Core.Path.{◌∙◌, ◌≡◌}
 use mathlib.Core.Bool.{false, cond}
 use native.Mathlib.Omega.{arith}
 use lib.ListN.{length, get_or}
-use Rattle.mask.specs.Masks.{past_last, end}
+use Rattle.mask.specs.Masks.{end}
 use Rattle.mask.specs.MaskLaws.{end_by, last_turn}
 use borrow.Author.Rules.{rules}
 use Rattle.mask.proofs.Mask.end.Goals as goal

@@ -1,11 +1,8 @@
-use Prim.Native.Nat.{◌+◌, ◌-◌, ◌≤◌}
-use mathlib.Core.Path.{◌∙◌, ◌≡◌}
-use mathlib.Core.Bool.{false, cond}
-use native.Mathlib.Omega.{arith}
-use lib.ListN.{length, get_or}
-use Rattle.mask.specs.Masks.{past_last, end}
-use Rattle.mask.specs.MaskLaws.{end_by, last_turn}
-use borrow.Author.Rules.{rules}
+use Prim.Native.Nat.{◌-◌, ◌≤◌}
+use mathlib.Core.Path.{◌≡◌}
+use mathlib.Core.Bool.{false}
+use lib.ListN.{get_or}
+use Rattle.mask.specs.Masks.{past_last}
 use Rattle.mask.proofs.Mask.end.Given as goal
 
 abbrev pub invariant-loop-i : goal.invariant-loop-i

@@ -2,7 +2,6 @@ use Prim.Native.Nat.{ℕ}
 use mathlib.Core.Path.{ap, ◌∙◌}
 use lib.Dec.{eqb}
 use Rattle.mask.specs.MaskLaws.{end_none}
-use borrow.Author.Rules.{rules}
 use Rattle.mask.proofs.Mask.is_empty.Goals as goal
 
 pub returns : goal.returns

@@ -1,14 +1,9 @@
-use Prim.Native.Nat.{ℕ, ◌-◌, ◌≤◌, min}
-use mathlib.Core.Path.{◌≡◌, sym, ◌∙◌}
+use Prim.Native.Nat.{◌-◌, ◌≤◌, min}
+use mathlib.Core.Path.{◌≡◌}
 use mathlib.Core.Bool.{false}
-use mathlib.Core.Logic.{⊎_elim}
-use native.Mathlib.Omega.{arith}
 use lib.Dec.{ltb}
-use lib.ListN.{length, replicate, get_or-replicate}
-use borrow.Author.Tests.{lt-ltb, le-ltb}
-use Rattle.words.specs.Filled.{filled, filled_none, filled_turn, filled_rest}
-use Rattle.mask.specs.Masks.{first_lanes}
-use borrow.Author.Rules.{rules}
+use lib.ListN.{length, replicate}
+use Rattle.words.specs.Filled.{filled}
 use Rattle.mask.proofs.Mask.new.Given as goal
 
 abbrev pub invariant-loop-i : goal.invariant-loop-i

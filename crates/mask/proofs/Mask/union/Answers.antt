@@ -1,9 +1,8 @@
-use Prim.Native.Nat.{◌-◌, ◌≤◌}
 use mathlib.Core.Path.{◌≡◌}
-use mathlib.Core.Bool.{false, ◌||◌}
+use mathlib.Core.Bool.{◌||◌}
 use native.Mathlib.Omega.{arith}
-use lib.ListN.{length, get_or}
-use Rattle.words.specs.Filled.{filled, filled_none}
+use lib.ListN.{length}
+use Rattle.words.specs.Filled.{filled_none}
 use Rattle.mask.specs.MaskLaws.{both_turn, both_all}
 use borrow.Author.Rules.{rules}
 use Rattle.mask.proofs.Mask.union.Goals as goal

@@ -1,6 +1,5 @@
 use mathlib.Core.Path.{◌∙◌}
 use Rattle.predicted_index.specs.Row.{row_of}
-use borrow.Author.Rules.{rules}
 use Rattle.predicted_index.proofs.row.row_of.Goals as goal
 
 pub returns-in-At : goal.returns-in-At

@@ -1,4 +1,3 @@
-use borrow.Author.Rules.{rules}
 use Rattle.instr.proofs.layout.Part.list.Goals as goal
 
 pub returns : goal.returns

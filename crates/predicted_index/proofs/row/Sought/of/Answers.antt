@@ -1,4 +1,3 @@
-use borrow.Author.Rules.{rules}
 use Rattle.predicted_index.proofs.row.Sought.of.Goals as goal
 
 pub returns : goal.returns
