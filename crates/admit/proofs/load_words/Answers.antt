@@ -6,7 +6,6 @@ use lib.ListN.{length}
 use native.Mathlib.Omega.{arith}
 use Prim.Native.Nat.{◌/◌}
 use mathlib.Core.Path.{sym}
-use borrow.Author.Rules.{rules}
 use Rattle.admit.proofs.load_words.Goals as goal
 
 pub slice_bounds-load-end : goal.slice_bounds-load-end

@@ -1,14 +1,9 @@
-use types.Run.{miss}
-use mathlib.Core.List.{[], ◌∷◌}
-use Prim.Native.Nat.{ℕ, ◌-◌, ◌≤◌, ◌<◌}
 use mathlib.Core.Path.{◌≡◌, sym, ap, ◌∙◌}
 use native.Mathlib.Omega.{arith}
 use borrow.Author.Count.{below_more}
 use Rattle.reader.specs.ReadLaws.{bodies_refused, bodies_pass}
-use mathlib.Core.Option.{none}
 use Rattle.model.specs.Laws.Contents.{contents_ok}
 use Rattle.model.specs.Book.Contents.{count}
-use Rattle.model.specs.Book.Read.{body_refusal}
 use Rattle.reader.specs.Reading.{refusal_of}
 use borrow.Author.Rules.{rules}
 use Rattle.reader.proofs.all_bodies.Goals as goal

@@ -2,7 +2,6 @@ use mathlib.Core.Path.{sym, ap, ◌∙◌}
 use native.Mathlib.Omega.{arith}
 use Rattle.reader.specs.ReadLaws.{few, body_bad, body_six, body_four, body_rows, body_pass, table_at_lem}
 use Rattle.reader.specs.Values.{scan_of}
-use borrow.Author.Rules.{rules}
 use Rattle.reader.proofs.body.Goals as goal
 
 pub walk-requires : goal.walk-requires

@@ -3,7 +3,6 @@ use Rattle.model.specs.Book.Read.{steps_refusal}
 use Rattle.model.specs.Outcome.{rules_refusal}
 use Rattle.model.specs.Laws.Book.{few_entries}
 use Rattle.rules.specs.RuleLaws.{else_stop, else_on}
-use borrow.Author.Rules.{rules}
 use Rattle.rules.proofs.check_book.Goals as goal
 
 pub of-contents-requires : goal.of-contents-requires

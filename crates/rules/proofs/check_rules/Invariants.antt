@@ -1,12 +1,8 @@
 use Prim.Native.Nat.{ℕ, ◌-◌, ◌≤◌, ◌<◌}
 use mathlib.Core.Option.{none}
-use mathlib.Core.Path.{◌≡◌, sym, ◌∙◌}
-use native.Mathlib.Omega.{arith}
-use borrow.Author.Count.{below_more}
+use mathlib.Core.Path.{◌≡◌}
 use Rattle.model.specs.Book.Contents.{rule_count}
 use Rattle.model.specs.Outcome.{rule_refusal}
-use Rattle.rules.specs.RuleLaws.{not_refused, rules_stop, rules_end}
-use borrow.Author.Rules.{rules}
 use Rattle.rules.proofs.check_rules.Given as goal
 
 abbrev pub invariant-loop-r : goal.invariant-loop-r

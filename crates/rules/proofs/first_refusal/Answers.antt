@@ -1,7 +1,6 @@
 use mathlib.Core.Path.{sym, ap, ◌∙◌}
 use Rattle.reader.specs.Reading.{refusal_of}
 use Rattle.rules.specs.RuleLaws.{words_stop, none_read, words_on}
-use borrow.Author.Rules.{rules}
 use Rattle.rules.proofs.first_refusal.Goals as goal
 
 pub check_book-requires : goal.check_book-requires

@@ -1,11 +1,7 @@
-use Prim.Native.Nat.{ℕ, ◌-◌, ◌≤◌, ◌<◌}
-use mathlib.Core.Bool.{true}
 use mathlib.Core.Path.{◌≡◌, sym, ◌∙◌}
 use native.Mathlib.Omega.{arith}
-use borrow.Author.Tests.{not-true, not-false}
 use borrow.Author.Count.{below_more}
 use Rattle.model.specs.Book.Contents.{step_count}
-use Rattle.model.specs.Book.Read.{tables, rules as book_rules, step, step_fits}
 use Rattle.model.specs.Laws.Book.{step_entry}
 use Rattle.contents.specs.ContentsLaws.{first_step_is}
 use Rattle.rules.specs.StepLaws.{steps_stop, steps_end}

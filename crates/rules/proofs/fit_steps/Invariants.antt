@@ -1,15 +1,8 @@
 use Prim.Native.Nat.{ℕ, ◌-◌, ◌≤◌, ◌<◌}
 use mathlib.Core.Bool.{true}
-use mathlib.Core.Path.{◌≡◌, sym, ◌∙◌}
-use native.Mathlib.Omega.{arith}
-use borrow.Author.Tests.{not-true, not-false}
-use borrow.Author.Count.{below_more}
+use mathlib.Core.Path.{◌≡◌}
 use Rattle.model.specs.Book.Contents.{step_count}
 use Rattle.model.specs.Book.Read.{tables, rules as book_rules, step, step_fits}
-use Rattle.model.specs.Laws.Book.{step_entry}
-use Rattle.contents.specs.ContentsLaws.{first_step_is}
-use Rattle.rules.specs.StepLaws.{steps_stop, steps_end}
-use borrow.Author.Rules.{rules}
 use Rattle.rules.proofs.fit_steps.Given as goal
 
 abbrev pub invariant-loop-k : goal.invariant-loop-k

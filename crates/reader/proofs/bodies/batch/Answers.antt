@@ -1,6 +1,5 @@
 use Rattle.reader.specs.BodyLaws.{batch_is, words_fit}
 use native.Mathlib.Omega.{arith}
-use borrow.Author.Rules.{rules}
 use Rattle.reader.proofs.bodies.batch.Goals as goal
 
 pub overflow_mul-columns : goal.overflow_mul-columns

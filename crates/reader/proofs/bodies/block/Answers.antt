@@ -1,7 +1,6 @@
 use mathlib.Core.Path.{sym, ap, ◌∙◌}
 use Rattle.reader.specs.Values.{scan_of}
 use Rattle.reader.specs.BodyLaws.{block_is, block_stops}
-use borrow.Author.Rules.{rules}
 use Rattle.reader.proofs.bodies.block.Goals as goal
 
 pub returns-in-Bad : goal.returns-in-Bad

@@ -3,7 +3,6 @@ use mathlib.Core.Path.{sym, ◌∙◌}
 use Rattle.model.specs.Laws.Iter.{above}
 use Rattle.model.specs.Book.Scan.{scan}
 use Rattle.reader.specs.Values.{sizes_of}
-use borrow.Author.Rules.{rules}
 use Rattle.reader.proofs.bodies.by_kind.Goals as goal
 
 pub returns-in-1 : goal.returns-in-1

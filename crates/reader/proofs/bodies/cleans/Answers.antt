@@ -1,10 +1,5 @@
-use Prim.Native.Nat.{◌≤◌, ◌-◌}
 use mathlib.Core.Path.{◌≡◌, refl, ◌∙◌}
 use native.Mathlib.Omega.{arith}
-use Rattle.model.specs.Basics.{iter}
-use Rattle.model.specs.Laws.Iter.{iter_more}
-use Rattle.reader.specs.Values.{scan_of}
-use Rattle.model.specs.Book.Scan.{word, clean}
 use borrow.Author.Rules.{rules}
 use Rattle.reader.proofs.bodies.cleans.Goals as goal
 

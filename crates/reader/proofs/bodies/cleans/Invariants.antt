@@ -1,11 +1,8 @@
 use Prim.Native.Nat.{◌≤◌, ◌-◌}
-use mathlib.Core.Path.{◌≡◌, refl, ◌∙◌}
-use native.Mathlib.Omega.{arith}
+use mathlib.Core.Path.{◌≡◌}
 use Rattle.model.specs.Basics.{iter}
-use Rattle.model.specs.Laws.Iter.{iter_more}
 use Rattle.reader.specs.Values.{scan_of}
 use Rattle.model.specs.Book.Scan.{word, clean}
-use borrow.Author.Rules.{rules}
 use Rattle.reader.proofs.bodies.cleans.Given as goal
 
 abbrev pub invariant-loop-i : goal.invariant-loop-i

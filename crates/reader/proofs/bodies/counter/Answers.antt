@@ -1,5 +1,4 @@
 use Rattle.reader.specs.BodyLaws.{counter_is}
-use borrow.Author.Rules.{rules}
 use Rattle.reader.proofs.bodies.counter.Goals as goal
 
 pub returns : goal.returns

@@ -1,6 +1,5 @@
 use Rattle.reader.specs.BodyLaws.{finish_is}
 use mathlib.Core.Path.{sym, ◌∙◌}
-use borrow.Author.Rules.{rules}
 use Rattle.reader.proofs.bodies.finish.Goals as goal
 
 pub returns : goal.returns

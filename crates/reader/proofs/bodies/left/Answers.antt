@@ -2,7 +2,6 @@ use borrow.Author.Tests.{eq-eqb, ne_eqb}
 use Prim.Native.Nat.{◌+◌}
 use native.Mathlib.Omega.{arith}
 use Rattle.model.specs.Book.Scan.{left}
-use borrow.Author.Rules.{rules}
 use Rattle.reader.proofs.bodies.left.Goals as goal
 
 pub returns-then-end-at : goal.returns-then-end-at

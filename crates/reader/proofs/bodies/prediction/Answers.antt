@@ -1,5 +1,4 @@
 use Rattle.reader.specs.BodyLaws.{prediction_is}
-use borrow.Author.Rules.{rules}
 use Rattle.reader.proofs.bodies.prediction.Goals as goal
 
 pub returns : goal.returns

@@ -1,5 +1,4 @@
 use Rattle.reader.specs.BodyLaws.{rule_is}
-use borrow.Author.Rules.{rules}
 use Rattle.reader.proofs.bodies.rule.Goals as goal
 
 pub returns : goal.returns

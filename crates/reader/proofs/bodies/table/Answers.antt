@@ -2,7 +2,6 @@ use Rattle.reader.specs.BodyLaws.{table_is, table_empty, table_wide, words_fit}
 use mathlib.Core.Path.{sym}
 use Prim.Native.Nat.{◌+◌}
 use native.Mathlib.Omega.{arith}
-use borrow.Author.Rules.{rules}
 use Rattle.reader.proofs.bodies.table.Goals as goal
 
 pub returns-then-width-eq0 : goal.returns-then-width-eq0

@@ -2,7 +2,6 @@ use mathlib.Core.Path.{sym, ap, ◌∙◌}
 use Rattle.reader.specs.Values.{scan_of}
 use Rattle.reader.specs.ScanLaws.{list_is, list_stops, word_bad}
 use Rattle.model.specs.Book.Scan.{word, clean}
-use borrow.Author.Rules.{rules}
 use Rattle.reader.proofs.bodies.values.Goals as goal
 
 pub returns-in-Bad : goal.returns-in-Bad

@@ -1,11 +1,7 @@
 use lib.ListN.{length}
-use Prim.Native.Nat.{◌≤◌, ◌-◌}
 use mathlib.Core.Path.{◌≡◌, refl, ◌∙◌}
 use native.Mathlib.Omega.{arith}
-use Rattle.model.specs.Basics.{iter}
-use Rattle.model.specs.Laws.Iter.{iter_more}
-use Rattle.reader.specs.Values.{scan_of, sizes_of}
-use Rattle.reader.specs.ScanLaws.{field_turn, instr_is}
+use Rattle.reader.specs.ScanLaws.{instr_is}
 use borrow.Author.Rules.{rules}
 use Rattle.reader.proofs.instructions.instr.Goals as goal
 

@@ -1,12 +1,8 @@
-use lib.ListN.{length}
 use Prim.Native.Nat.{◌≤◌, ◌-◌}
-use mathlib.Core.Path.{◌≡◌, refl, ◌∙◌}
-use native.Mathlib.Omega.{arith}
+use mathlib.Core.Path.{◌≡◌}
 use Rattle.model.specs.Basics.{iter}
-use Rattle.model.specs.Laws.Iter.{iter_more}
 use Rattle.reader.specs.Values.{scan_of, sizes_of}
-use Rattle.reader.specs.ScanLaws.{field_turn, instr_is}
-use borrow.Author.Rules.{rules}
+use Rattle.reader.specs.ScanLaws.{field_turn}
 use Rattle.reader.proofs.instructions.instr.Given as goal
 
 abbrev pub invariant-loop-k : goal.invariant-loop-k

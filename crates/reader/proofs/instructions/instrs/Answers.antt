@@ -1,8 +1,5 @@
-use Prim.Native.Nat.{◌≤◌, ◌-◌}
 use mathlib.Core.Path.{◌≡◌, refl, sym, ap, ◌∙◌}
 use native.Mathlib.Omega.{arith}
-use Rattle.model.specs.Basics.{iter}
-use Rattle.model.specs.Laws.Iter.{iter_more}
 use Rattle.reader.specs.Values.{scan_of, sizes_of}
 use Rattle.reader.specs.ScanLaws.{list_is, list_stops, instr_bad}
 use Rattle.model.specs.Book.Scan.{instr}

@@ -1,5 +1,4 @@
 use Rattle.reader.specs.ScanLaws.{pair_is}
-use borrow.Author.Rules.{rules}
 use Rattle.reader.proofs.instructions.pair.Goals as goal
 
 pub returns : goal.returns

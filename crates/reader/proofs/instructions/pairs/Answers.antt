@@ -1,9 +1,6 @@
 use Rattle.reader.specs.ScanLaws.{list_is, list_stops, pair_bad}
-use Prim.Native.Nat.{◌≤◌, ◌-◌}
 use mathlib.Core.Path.{◌≡◌, refl, sym, ap, ◌∙◌}
 use native.Mathlib.Omega.{arith}
-use Rattle.model.specs.Basics.{iter}
-use Rattle.model.specs.Laws.Iter.{iter_more}
 use Rattle.reader.specs.Values.{scan_of, sizes_of}
 use Rattle.reader.specs.ScanLaws.{list_is, pair_bad}
 use Rattle.model.specs.Book.Scan.{pair}

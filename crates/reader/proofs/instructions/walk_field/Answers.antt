@@ -1,5 +1,4 @@
 use Rattle.model.specs.Book.Scan.{field}
-use borrow.Author.Rules.{rules}
 use Rattle.reader.proofs.instructions.walk_field.Goals as goal
 
 pub returns-in-Nothing : goal.returns-in-Nothing

@@ -1,5 +1,4 @@
 use mathlib.Core.Logic.{inr}
-use borrow.Author.Rules.{rules}
 use Rattle.reader.proofs.rows.first_indexed.Goals as goal
 
 pub first_repeat-requires : goal.first_repeat-requires

@@ -1,12 +1,8 @@
-use Prim.Native.Nat.{ℕ, ◌-◌, ◌≤◌, ◌<◌}
 use mathlib.Core.Path.{◌≡◌, sym, ◌∙◌}
-use mathlib.Core.Bool.{false}
 use native.Mathlib.Omega.{arith}
 use borrow.Author.Count.{below_more}
-use Rattle.model.specs.Book.Read.{is_repeat}
-use Rattle.tables.specs.Tables.{row_at}
 use Rattle.tables.specs.TablesLaws.{next_row}
-use Rattle.reader.specs.Places.{rows_of, RowAt}
+use Rattle.reader.specs.Places.{RowAt}
 use Rattle.reader.specs.RowLaws.{row_fit, refuse_row, pass_rows}
 use borrow.Author.Rules.{rules}
 use Rattle.reader.proofs.rows.first_repeat.Goals as goal

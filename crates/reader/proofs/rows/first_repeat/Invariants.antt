@@ -1,14 +1,9 @@
 use Prim.Native.Nat.{ℕ, ◌-◌, ◌≤◌, ◌<◌}
-use mathlib.Core.Path.{◌≡◌, sym, ◌∙◌}
+use mathlib.Core.Path.{◌≡◌}
 use mathlib.Core.Bool.{false}
-use native.Mathlib.Omega.{arith}
-use borrow.Author.Count.{below_more}
 use Rattle.model.specs.Book.Read.{is_repeat}
 use Rattle.tables.specs.Tables.{row_at}
-use Rattle.tables.specs.TablesLaws.{next_row}
-use Rattle.reader.specs.Places.{rows_of, RowAt}
-use Rattle.reader.specs.RowLaws.{row_fit, refuse_row, pass_rows}
-use borrow.Author.Rules.{rules}
+use Rattle.reader.specs.Places.{rows_of}
 use Rattle.reader.proofs.rows.first_repeat.Given as goal
 
 abbrev pub invariant-loop-i : goal.invariant-loop-i

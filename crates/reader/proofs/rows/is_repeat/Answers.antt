@@ -1,6 +1,5 @@
 use mathlib.Core.Path.{sym, ◌∙◌}
 use Rattle.reader.specs.RowLaws.{repeat_at, repeat_nothing}
-use borrow.Author.Rules.{rules}
 use Rattle.reader.proofs.rows.is_repeat.Goals as goal
 
 pub returns-in-At : goal.returns-in-At

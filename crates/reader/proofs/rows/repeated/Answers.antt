@@ -1,6 +1,5 @@
 use mathlib.Core.Path.{refl, sym, ◌∙◌, subst}
 use mathlib.Core.Logic.{inl}
-use borrow.Author.Rules.{rules}
 use Rattle.tables.specs.Tables.{RowsStand}
 use Rattle.hash_index.specs.IndexLaws.{serves_few}
 use Rattle.reader.proofs.rows.repeated.Goals as goal

@@ -1,4 +1,3 @@
-use borrow.Author.Rules.{rules}
 use Rattle.reader.proofs.scan.mark.Goals as goal
 
 pub returns-in-Fine : goal.returns-in-Fine

@@ -1,7 +1,3 @@
-use mathlib.Core.Path.{sym}
-use lib.ListN.{get_or-eq_default}
-use native.Mathlib.Omega.{arith}
-use borrow.Author.Rules.{rules}
 use Rattle.reader.proofs.scan.peek.Goals as goal
 
 pub returns-then-at-words : goal.returns-then-at-words

@@ -1,6 +1,5 @@
 use borrow.Author.Tests.{lt-ltb, le-ltb}
 use Rattle.model.specs.Book.Scan.{step}
-use borrow.Author.Rules.{rules}
 use Rattle.reader.proofs.scan.word.Goals as goal
 
 pub returns-in-Bad : goal.returns-in-Bad

@@ -1,4 +1,3 @@
-use borrow.Author.Rules.{rules}
 use Rattle.rules.proofs.Checking.verdict.Goals as goal
 
 pub returns-in-Size : goal.returns-in-Size

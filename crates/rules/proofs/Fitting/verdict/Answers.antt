@@ -1,4 +1,3 @@
-use borrow.Author.Rules.{rules}
 use Rattle.rules.proofs.Fitting.verdict.Goals as goal
 
 pub returns-in-Unfit : goal.returns-in-Unfit

@@ -3,7 +3,6 @@ use native.Mathlib.Omega.{arith}
 use Rattle.model.specs.Laws.Book.{rule_entry}
 use Rattle.contents.specs.ContentsLaws.{first_rule_is}
 use Rattle.rules.specs.StepLaws.{batch_test}
-use borrow.Author.Rules.{rules}
 use Rattle.rules.proofs.fit.batch_fits.Goals as goal
 
 pub overflow_add-first_rule : goal.overflow_add-first_rule

@@ -2,7 +2,6 @@ use mathlib.Core.Path.{sym}
 use native.Mathlib.Omega.{arith}
 use Rattle.model.specs.Laws.Book.{few_tables}
 use Rattle.rules.specs.StepLaws.{prediction_test}
-use borrow.Author.Rules.{rules}
 use Rattle.rules.proofs.fit.prediction_fits.Goals as goal
 
 pub keys_of-keys-requires : goal.keys_of-keys-requires

@@ -5,7 +5,6 @@ use Rattle.model.specs.Book.Read.{tables, rules as book_rules, step_fits}
 use Rattle.model.specs.Laws.Book.{step_entry}
 use Rattle.contents.specs.ContentsLaws.{first_step_is}
 use Rattle.rules.specs.StepLaws.{batch_here, step_batch, not_batch, prediction_here, step_prediction}
-use borrow.Author.Rules.{rules}
 use Rattle.rules.proofs.fit.step_fits.Goals as goal
 
 pub overflow_add-i : goal.overflow_add-i

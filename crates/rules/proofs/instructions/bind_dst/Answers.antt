@@ -1,4 +1,3 @@
-use borrow.Author.Rules.{rules}
 use Rattle.rules.proofs.instructions.bind_dst.Goals as goal
 
 pub bind_dst-requires : goal.bind_dst-requires

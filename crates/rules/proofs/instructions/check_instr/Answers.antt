@@ -1,6 +1,5 @@
 use mathlib.Core.Path.{◌∙◌}
 use Rattle.model.specs.Check.{check_instr}
-use borrow.Author.Rules.{rules}
 use Rattle.rules.proofs.instructions.check_instr.Goals as goal
 
 pub returns : goal.returns

@@ -3,7 +3,6 @@ use native.Mathlib.Omega.{arith}
 use Rattle.model.specs.Check.{columns_of}
 use Rattle.instr.specs.Meaning.{instr_of}
 use Rattle.model.specs.Laws.Book.{few_tables, table_keys, table_width}
-use borrow.Author.Rules.{rules}
 use Rattle.rules.proofs.instructions.columns_fit.Goals as goal
 
 pub column_fits-requires : goal.column_fits-requires

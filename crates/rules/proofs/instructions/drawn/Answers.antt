@@ -1,4 +1,3 @@
-use borrow.Author.Tests.{not-true, not-false}
 use Rattle.rules.proofs.instructions.drawn.Goals as goal
 
 pub returns-then-not-fit : goal.returns-then-not-fit

@@ -2,7 +2,6 @@ use mathlib.Core.Path.{refl}
 use Rattle.model.specs.Check.{held_of, free?}
 use Rattle.instr.specs.Meaning.{instr_of}
 use Rattle.rules.specs.TestLaws.{all_append, against_all, writes_as_entries}
-use borrow.Author.Rules.{rules}
 use Rattle.rules.proofs.instructions.held_free.Goals as goal
 
 pub all_free-requires : goal.all_free-requires

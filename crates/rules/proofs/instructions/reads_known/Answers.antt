@@ -4,7 +4,6 @@ use Rattle.model.specs.Check.{reads_of, known?}
 use Rattle.instr.specs.Meaning.{instr_of}
 use Rattle.bound_vars.specs.Bound.{has}
 use Rattle.rules.specs.TestLaws.{all_append, writes_as_entries}
-use borrow.Author.Rules.{rules}
 use Rattle.rules.proofs.instructions.reads_known.Goals as goal
 
 pub all_known-requires : goal.all_known-requires

@@ -4,7 +4,6 @@ use Rattle.model.specs.Check.{sizes_of}
 use Rattle.instr.specs.Meaning.{instr_of}
 use Rattle.model.specs.Laws.Book.{few_tables, table_keys, table_width}
 use Rattle.rules.specs.TestLaws.{count_entries, count_writes}
-use borrow.Author.Rules.{rules}
 use Rattle.rules.proofs.instructions.sizes_fit.Goals as goal
 
 pub keys_fit-requires : goal.keys_fit-requires

@@ -1,10 +1,6 @@
-use Prim.Native.Nat.{ℕ, ◌+◌, ◌*◌, ◌≤◌, ◌<◌, ◌-◌}
-use mathlib.Core.Bool.{true}
 use mathlib.Core.Path.{◌≡◌, sym, ap, ◌∙◌}
 use native.Mathlib.Omega.{arith}
-use borrow.Author.Tests.{not-true, not-false}
 use borrow.Author.Count.{below_more}
-use Rattle.model.specs.Book.Decode as decode
 use Rattle.model.specs.Check.{known?}
 use Rattle.instr.specs.InstrLaws.{entry_at_lem}
 use Rattle.instr.specs.Meaning.{entry_of}

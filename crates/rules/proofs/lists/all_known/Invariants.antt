@@ -1,16 +1,9 @@
 use Prim.Native.Nat.{ℕ, ◌+◌, ◌*◌, ◌≤◌, ◌<◌, ◌-◌}
 use mathlib.Core.Bool.{true}
-use mathlib.Core.Path.{◌≡◌, sym, ap, ◌∙◌}
-use native.Mathlib.Omega.{arith}
-use borrow.Author.Tests.{not-true, not-false}
-use borrow.Author.Count.{below_more}
+use mathlib.Core.Path.{◌≡◌}
 use Rattle.model.specs.Book.Decode as decode
 use Rattle.model.specs.Check.{known?}
-use Rattle.instr.specs.InstrLaws.{entry_at_lem}
-use Rattle.instr.specs.Meaning.{entry_of}
 use Rattle.bound_vars.specs.Bound.{has}
-use Rattle.rules.specs.TestLaws.{entries_no, entries_yes}
-use borrow.Author.Rules.{rules}
 use Rattle.rules.proofs.lists.all_known.Given as goal
 
 abbrev pub invariant-loop-k : goal.invariant-loop-k

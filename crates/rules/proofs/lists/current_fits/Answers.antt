@@ -1,5 +1,4 @@
 use mathlib.Core.Bool.{and-true}
-use borrow.Author.Rules.{rules}
 use Rattle.rules.proofs.lists.current_fits.Goals as goal
 
 pub returns-in-CurrentVal : goal.returns-in-CurrentVal

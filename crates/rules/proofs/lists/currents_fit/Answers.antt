@@ -1,10 +1,7 @@
-use Prim.Native.Nat.{ℕ, ◌+◌, ◌*◌, ◌≤◌, ◌<◌, ◌-◌}
-use mathlib.Core.Bool.{true}
+use Prim.Native.Nat.{◌+◌}
 use mathlib.Core.Path.{◌≡◌, sym, ap, ◌∙◌}
 use native.Mathlib.Omega.{arith}
-use borrow.Author.Tests.{not-true, not-false}
 use borrow.Author.Count.{below_more}
-use Rattle.model.specs.Book.Decode as decode
 use Rattle.instr.specs.InstrLaws.{write_at_lem}
 use Rattle.instr.specs.Meaning.{write_of}
 use Rattle.rules.specs.Rules.{current_fits}

@@ -1,15 +1,8 @@
 use Prim.Native.Nat.{ℕ, ◌+◌, ◌*◌, ◌≤◌, ◌<◌, ◌-◌}
 use mathlib.Core.Bool.{true}
-use mathlib.Core.Path.{◌≡◌, sym, ap, ◌∙◌}
-use native.Mathlib.Omega.{arith}
-use borrow.Author.Tests.{not-true, not-false}
-use borrow.Author.Count.{below_more}
+use mathlib.Core.Path.{◌≡◌}
 use Rattle.model.specs.Book.Decode as decode
-use Rattle.instr.specs.InstrLaws.{write_at_lem}
-use Rattle.instr.specs.Meaning.{write_of}
 use Rattle.rules.specs.Rules.{current_fits}
-use Rattle.rules.specs.TestLaws.{currents_no, currents_yes}
-use borrow.Author.Rules.{rules}
 use Rattle.rules.proofs.lists.currents_fit.Given as goal
 
 abbrev pub invariant-loop-k : goal.invariant-loop-k

@@ -1,4 +1,3 @@
-use borrow.Author.Rules.{rules}
 use Rattle.rules.proofs.lists.known.Goals as goal
 
 pub returns-in-Var : goal.returns-in-Var

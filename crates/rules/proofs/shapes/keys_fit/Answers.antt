@@ -1,4 +1,3 @@
-use borrow.Author.Rules.{rules}
 use Rattle.rules.proofs.shapes.keys_fit.Goals as goal
 
 pub returns : goal.returns

@@ -1,4 +1,3 @@
-use borrow.Author.Rules.{rules}
 use Rattle.rules.proofs.shapes.row_fits.Goals as goal
 
 pub returns : goal.returns

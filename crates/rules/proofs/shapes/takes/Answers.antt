@@ -1,4 +1,3 @@
-use borrow.Author.Rules.{rules}
 use Rattle.rules.proofs.shapes.takes.Goals as goal
 
 pub returns : goal.returns
