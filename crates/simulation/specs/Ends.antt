@@ -18,7 +18,8 @@ use Rattle.model.specs.Outcome.{book_refusal}
 use Rattle.model.specs.Laws.Lists.{length_tab}
 use Rattle.model.specs.Laws.Book.{Readable}
 use Rattle.model.specs.Safety.Instance.{functions_fine}
-use Rattle.model.specs.Safety.BookClaims.{demand3, own_steps_lem}
+use Rattle.model.specs.Safety.BookClaims.{own_steps_lem}
+use Rattle.model.proofs.Safety.{demand3}
 use Rattle.counter.specs.CounterLaws.{padded}
 use Rattle.record_log.specs.Log.{log_of}
 use Rattle.record_log.specs.LogLaws.{no_records, used_words}
