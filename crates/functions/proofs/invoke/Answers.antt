@@ -7,6 +7,7 @@ use lib.ListN.{length, get_or}
 use Rattle.model.specs.Laws.Iter.{above}
 use Rattle.model.specs.Machine.Functions.{of_two, function_of, arity, apply}
 use Rattle.functions.specs.FunctionLaws.{some_argument, answered, answered_by_two, other_counts, no_function_lem}
+use borrow.Author.Rules.{rules}
 use Rattle.functions.proofs.invoke.Goals as goal
 use Rattle.functions.proofs.invoke.Goals.{Else-n-arity}
 
