@@ -23,7 +23,8 @@ use Rattle.execution.specs.declared.Stop.TheVariants.{Going}
 use Rattle.execution.specs.Execution.{goes_on}
 use Rattle.run.specs.Progress.{Ran, ran_steps}
 use Rattle.simulation.specs.Represents.{machine, bool_clash}
-use Rattle.simulation.specs.Runs.{RunIs, Runs, sticking, stopped, going_on, run_follows}
+use Rattle.simulation.specs.Runs.{RunIs, Runs, sticking, stopped, going_on}
+use Rattle.simulation.proofs.Runs.{run_follows}
 use Rattle.simulation.specs.Ends.{start_progress, starts, never_stuck}
 use Rattle.conclude.specs.declared.Outcome.{Outcome}
 use Rattle.conclude.specs.declared.Outcome.TheVariants.{Accepted, Refused}

@@ -12,7 +12,8 @@ use Rattle.model.specs.Machine.Functions.{apply}
 use Rattle.model.specs.Claims.Demand3.{NeverStale}
 use Rattle.model.specs.Claims.Cases.{CasesHold, K1Column, K1Lines, k1_words, k1_bytes, K1Demand3}
 use Rattle.model.specs.Safety.Instance.{functions_fine}
-use Rattle.model.specs.Safety.BookClaims.{demand3, own_steps_lem}
+use Rattle.model.specs.Safety.BookClaims.{own_steps_lem}
+use Rattle.model.proofs.Safety.{demand3}
 use Rattle.model.proofs.Computed.{computed}
 
 pub cases_hold : CasesHold

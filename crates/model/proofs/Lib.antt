@@ -1,4 +1,5 @@
--- In order: runs on logs with less and more room, the refusals, the books by computation, then what the trace notes, with the spent counters (`Spent`).
+-- In order: demand 3, runs on logs with less and more room, the refusals, the books by computation, then what the trace notes, with the spent counters (`Spent`).
+pub mod Safety
 mod Idle
 mod Room
 mod Follows

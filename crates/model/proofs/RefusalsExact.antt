@@ -26,7 +26,8 @@ use Rattle.model.proofs.StageFaults.{contents_exact, steps_exact}
 use Rattle.model.proofs.RuleFaults.{rules_exact}
 use Rattle.model.proofs.RunFaults.{run_exact, run_same}
 use Rattle.model.specs.Safety.Instance.{functions_fine}
-use Rattle.model.specs.Safety.BookClaims.{demand3, own_steps_lem}
+use Rattle.model.specs.Safety.BookClaims.{own_steps_lem}
+use Rattle.model.proofs.Safety.{demand3}
 
 module _ (l : Lent) (book : List ℕ) (is_bytes : All Byte book) where
   abbrev w : List ℕ

@@ -1,22 +1,19 @@
--- A batch: its instructions in the code and in the machine, from its start to its end.
-use Prim.Native.Nat.{ℕ, zero, suc, ◌<◌, ◌≤◌}
+-- A batch that goes on, in the code and in the machine, and the end of an instruction; `proofs/Instructions` goes from its start to its end.
+use Prim.Native.Nat.{ℕ, suc, ◌≤◌}
 use Rattle.std.specs.Prelude.{◌≡◌, Bool, true, false, ◌&&◌, ◌||◌, List, [], ◌∷◌, map, eqb, length, take, replicate}
 use Rattle.std.proofs.Math.Path.{refl, subst}
 use Rattle.std.proofs.Common.{sym, ap, ◌∙◌, arith}
 use Rattle.std.proofs.Math.Bool.{or-false}
 use Rattle.std.proofs.Math.Option.{Option, none, some}
-use Rattle.std.proofs.Math.ListN.{get_elem?}
-use Rattle.model.specs.Basics.{when, found, only}
+use Rattle.model.specs.Basics.{found, only}
 use Rattle.model.specs.Book.Syntax.{dst_of, stale}
 use Rattle.model.specs.Book.Syntax as syntax
-use Rattle.model.specs.Book.Decode as decode
 use Rattle.model.specs.Machine.State.{State, Answer, going, is_going, mask, note}
 use Rattle.model.specs.Machine.Values.{bind}
-use Rattle.model.specs.Machine.Steps.{or_stale, clear, bind_out, any_live, finish, body, instruction, instructions}
+use Rattle.model.specs.Machine.Steps.{or_stale, clear, bind_out, any_live, finish, body, instruction}
 use Rattle.model.specs.Laws.Logic.{some_inj}
 use Rattle.model.specs.Laws.Turns.{when_T, when_F}
 use Rattle.mask.specs.Masks.{padded}
-use Rattle.mask.specs.MaskLaws.{any_padded}
 use Rattle.bound_vars.specs.Bound.{has}
 use Rattle.bound_vars.specs.BoundLaws.{length_binding, has_binding}
 use Rattle.bindings.specs.Columns.{columns_of, bound}
@@ -24,18 +21,17 @@ use Rattle.bindings.specs.BindingLaws.{bind_is}
 use Rattle.instr.specs.declared.Instr.{Instr}
 use Rattle.instr.specs.declared.Instr.TheVariants.{LookupOrInsertDefault, LookupWithDefault, Lookup, LookupWithFallback, Insert, InsertIfEq, Remove, External, ExternalWithFallback, AssertEq, AssertNe, AssertAnyNe, ReadCounter}
 use Rattle.instr.specs.Instr.{instr_at}
-use Rattle.instr.specs.InstrLaws.{instr_at_lem}
 use Rattle.instr.specs.Meaning.{instr_of}
 use Rattle.instr.specs.Stands.{binds_of, IsVariable}
 use Rattle.instr.specs.StandsLaws.{binds}
 use Rattle.execution.specs.declared.Stop.TheVariants.{Going}
 use Rattle.execution.specs.Execution.{goes_on, is_going as code_goes}
 use Rattle.action.specs.Act.{Lanes, acted}
-use Rattle.action.specs.Run.{Running, begun, finished, ran_instr, ran_next, ran_instrs}
+use Rattle.action.specs.Run.{Running, begun, finished, ran_instr, ran_next}
 use Rattle.simulation.specs.Represents.{machine, LogIs, Follows, sticks, stops, goes, not_going}
 use Rattle.simulation.specs.Passes.{start_clear}
 use Rattle.simulation.specs.Fits.{Fits}
-use Rattle.simulation.specs.Bodies.{LanesAre, begins, body_follows}
+use Rattle.simulation.specs.Bodies.{LanesAre, begins}
 
 abbrev pub is_bound : Option (List ℕ) → Bool
 is_bound o = found o (λ _. true) (λ _. false)
@@ -129,10 +125,10 @@ module _ (w : List ℕ) (L : ℕ) (short : L ≤ 16384) (answers : List Answer) 
     abbrev s₂ : State
     s₂ = body (machine w L) k j (instr_of w i) s₁
 
-    left_is : acted w r.bindings i (begun r) ≡ left
+    pub left_is : acted w r.bindings i (begun r) ≡ left
     left_is = ap (λ (m : List ℕ). acted w m i (begun r)) b.bindings ∙ ap (λ (live : List Bool). acted w (columns_of s.bindings) i (record { live = live; state = r.batch.state; log = r.log; index = r.index; out = replicate 256 stale })) b.live
 
-    ended : Follows s₁ s₂ left.state.stop (LanesAre w L s₁ s₂ left) → Follows s (finish k (dst_of (instr_of w i)) s₂) left.state.stop (BatchIs w L answers (finish k (dst_of (instr_of w i)) s₂) (finished (binds_of i) left r))
+    pub ended : Follows s₁ s₂ left.state.stop (LanesAre w L s₁ s₂ left) → Follows s (finish k (dst_of (instr_of w i)) s₂) left.state.stop (BatchIs w L answers (finish k (dst_of (instr_of w i)) s₂) (finished (binds_of i) left r))
     unfolding finish
     ended (sticks e) = sticks (ap (λ (t : State). t.status) (when_F (is_going s₂.status) _ s₂ (ap is_going e)) ∙ e)
     ended (stops x y z) =
@@ -146,78 +142,13 @@ module _ (w : List ℕ) (L : ℕ) (short : L ≤ 16384) (answers : List Answer) 
         status none = x
         status (some v) = x
 
-    instr_follows : let s' : State = finish k (dst_of (instr_of w i)) s₂ in Follows s s' (ran_instr w i r).batch.state.stop (BatchIs w L answers s' (ran_instr w i r))
-    unfolding ran_instr
-    instr_follows = subst (λ (l : Lanes). let s' : State = finish k (dst_of (instr_of w i)) s₂ in Follows s s' l.state.stop (BatchIs w L answers s' (finished (binds_of i) l r))) (sym left_is)
-        (ended (body_follows w L s₁ (start_clear s a b.few) r.batch.state r.log r.index o b.is k j short i f))
-
   -- ## The instructions of a rule
 
   -- nothing happens to a machine or a code that has stopped
-  still : (k j : ℕ) (ins : syntax.Instr) (s : State) → is_going s.status ≡ false → instruction (machine w L) k j ins s ≡ s
+  pub still : (k j : ℕ) (ins : syntax.Instr) (s : State) → is_going s.status ≡ false → instruction (machine w L) k j ins s ≡ s
   unfolding instruction
   still k j ins s e = when_F (is_going s.status && any_live s.live) (λ s'. finish k (dst_of ins) (body (machine w L) k j ins (clear s'))) s (rw e)
 
-  halted : (p : ℕ) (r : Running) → goes_on r.batch.state.stop ≡ false → ran_next w p r ≡ r
+  pub halted : (p : ℕ) (r : Running) → goes_on r.batch.state.stop ≡ false → ran_next w p r ≡ r
   unfolding ran_next
   halted p r e = when_F (code_goes r.batch.state && any_live r.batch.mask.live) (ran_instr w (instr_at w p)) r (rw e)
-
-  -- instruction j of the rule, which stands at p
-  next_follows : (k j p : ℕ) (s : State) (r : Running) → s.status ≡ going → r.batch.state.stop ≡ Going → BatchIs w L answers s r → Fits w (instr_at w p)
-      → let s' : State = instruction (machine w L) k j (decode.instr_at w p) s in Follows s s' (ran_next w p r).batch.state.stop (BatchIs w L answers s' (ran_next w p r))
-  unfolding instruction ran_next
-  next_follows k j p s r a o b f = by (any_live s.live) refl
-    where
-      act : State → State
-      act s' = finish k (dst_of (decode.instr_at w p)) (body (machine w L) k j (decode.instr_at w p) (clear s'))
-
-      code_live : (q : Bool) → any_live s.live ≡ q → code_goes r.batch.state && any_live r.batch.mask.live ≡ q
-      code_live q e = rw o (ap any_live b.live ∙ any_padded s.live ∙ e)
-
-      by : (q : Bool) → any_live s.live ≡ q → let s' : State = when (is_going s.status && any_live s.live) act s in let r' : Running = when (code_goes r.batch.state && any_live r.batch.mask.live) (ran_instr w (instr_at w p)) r in Follows s s' r'.batch.state.stop (BatchIs w L answers s' r')
-      by true e =
-          let m : when (is_going s.status && any_live s.live) act s ≡ act s = when_T (is_going s.status && any_live s.live) act s (rw (a, e)) in
-          let c : when (code_goes r.batch.state && any_live r.batch.mask.live) (ran_instr w (instr_at w p)) r ≡ ran_instr w (instr_at w p) r = when_T (code_goes r.batch.state && any_live r.batch.mask.live) (ran_instr w (instr_at w p)) r (code_live true e) in
-          subst (λ (s' : State). let r' : Running = when (code_goes r.batch.state && any_live r.batch.mask.live) (ran_instr w (instr_at w p)) r in Follows s s' r'.batch.state.stop (BatchIs w L answers s' r')) (sym m)
-          (subst (λ (r' : Running). Follows s (act s) r'.batch.state.stop (BatchIs w L answers (act s) r')) (sym c)
-          (subst (λ (ins : syntax.Instr). let s' : State = finish k (dst_of ins) (body (machine w L) k j ins (clear s)) in Follows s s' (ran_instr w (instr_at w p) r).batch.state.stop (BatchIs w L answers s' (ran_instr w (instr_at w p) r))) (instr_at_lem w p) (instr_follows k j s r a o b (instr_at w p) f)))
-      by false e =
-          let m : when (is_going s.status && any_live s.live) act s ≡ s = when_F (is_going s.status && any_live s.live) act s (rw (a, e)) in
-          let c : when (code_goes r.batch.state && any_live r.batch.mask.live) (ran_instr w (instr_at w p)) r ≡ r = when_F (code_goes r.batch.state && any_live r.batch.mask.live) (ran_instr w (instr_at w p)) r (code_live false e) in
-          subst (λ (s' : State). let r' : Running = when (code_goes r.batch.state && any_live r.batch.mask.live) (ran_instr w (instr_at w p)) r in Follows s s' r'.batch.state.stop (BatchIs w L answers s' r')) (sym m)
-          (subst (λ (r' : Running). Follows s s r'.batch.state.stop (BatchIs w L answers s r')) (sym c) (goes a o b))
-
-  -- n of them, of the rule whose body begins at the word `at`
-  module _ (k at : ℕ) (n : ℕ) (fit : (j : ℕ) → j < n → Fits w (instr_at w (decode.instr_place w at j))) (rule : syntax.Rule) (its : (j : ℕ) → j < n → get_elem? rule.instrs j ≡ some (decode.instr_at w (decode.instr_place w at j))) (s₀ : State) (r₀ : Running) (a : s₀.status ≡ going) (o : r₀.batch.state.stop ≡ Going) (b : BatchIs w L answers s₀ r₀) where
-    pub instrs_follow : (m : ℕ) → m ≤ n → let s : State = instructions (machine w L) k rule m s₀ in let r : Running = ran_instrs w at m r₀ in Follows s₀ s r.batch.state.stop (BatchIs w L answers s r)
-    unfolding instructions ran_instrs
-    instrs_follow zero h = goes a o b
-    instrs_follow (suc m) h = by (instrs_follow m (omega arith))
-      where
-        s : State
-        s = instructions (machine w L) k rule m s₀
-
-        r : Running
-        r = ran_instrs w at m r₀
-
-        p : ℕ
-        p = decode.instr_place w at m
-
-        next : State
-        next = instruction (machine w L) k m (decode.instr_at w p) s
-
-        Goal : State → Running → Type 0
-        Goal s' r' = Follows s₀ s' r'.batch.state.stop (BatchIs w L answers s' r')
-
-        taken : found (get_elem? rule.instrs m) (λ ins. instruction (machine w L) k m ins s) (λ _. s) ≡ next
-        taken = rw (its m (omega arith))
-
-        chain : BatchIs w L answers s r → Follows s next (ran_next w p r).batch.state.stop (BatchIs w L answers next (ran_next w p r)) → Goal next (ran_next w p r)
-        chain q (sticks x) = sticks x
-        chain q (stops x y z) = stops x y (z ∙ q.answered ∙ sym b.answered)
-        chain q (goes x y z) = goes x y z
-
-        by : Follows s₀ s r.batch.state.stop (BatchIs w L answers s r) → Goal (found (get_elem? rule.instrs m) (λ ins. instruction (machine w L) k m ins s) (λ _. s)) (ran_next w p r)
-        by (sticks x) = subst (λ (s' : State). Goal s' (ran_next w p r)) (sym taken) (sticks (ap (λ (t : State). t.status) (still k m (decode.instr_at w p) s (ap is_going x)) ∙ x))
-        by (stops x y z) = subst (λ (s' : State). Goal s' (ran_next w p r)) (sym taken) (subst (λ (r' : Running). Goal next r') (sym (halted p r x)) (let e = still k m (decode.instr_at w p) s (not_going r.batch.state.stop s.status x y) in stops x (ap (λ (t : State). t.status) e ∙ y) (ap (λ (t : State). t.answers) e ∙ z)))
-        by (goes x y q) = subst (λ (s' : State). Goal s' (ran_next w p r)) (sym taken) (chain q (next_follows k m p s r x y q (fit m (omega arith))))

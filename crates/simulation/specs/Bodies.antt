@@ -1,4 +1,4 @@
--- The lanes' part of each instruction: what the code leaves is what the machine leaves.
+-- The lanes' part of each instruction: what the code leaves is what the machine leaves. Those that answer missed lanes by a default or a fallback, and all of them together, stand in `proofs/Instructions`.
 use Prim.Native.Nat.{ℕ, zero, suc, ◌<◌, ◌≤◌}
 use Rattle.std.specs.Prelude.{◌≡◌, Bool, true, false, ◌&&◌, ◌||◌, length, get_or, take, replicate}
 use Rattle.std.proofs.Math.Path.{refl, ap, subst}
@@ -27,11 +27,10 @@ use Rattle.counter.specs.CounterLaws.{get_or_padded}
 use Rattle.bindings.specs.Columns.{columns_of}
 use Rattle.instr.specs.declared.Entries.{Entries}
 use Rattle.instr.specs.declared.Instr.{Instr}
-use Rattle.instr.specs.declared.Instr.TheVariants.{LookupOrInsertDefault, LookupWithDefault, Lookup, LookupWithFallback, Insert, InsertIfEq, Remove, External, ExternalWithFallback, AssertEq, AssertNe, AssertAnyNe, ReadCounter}
+use Rattle.instr.specs.declared.Instr.TheVariants.{LookupOrInsertDefault, Lookup, Insert, InsertIfEq, Remove, External, AssertEq, AssertNe, AssertAnyNe, ReadCounter}
 use Rattle.instr.specs.Meaning.{entries_of, writes_of, instr_of}
 use Rattle.lanes.specs.declared.Ask.TheVariants.{Const as AskConst}
-use Rattle.lanes.specs.LaneLaws.{asked_entry}
-use Rattle.lanes.specs.Lanes.{entry_ask, asked, is_some, or_else, answered_lanes, answered_words}
+use Rattle.lanes.specs.Lanes.{asked, is_some, or_else, answered_lanes, answered_words}
 use Rattle.execution.specs.declared.Change.TheVariants as change
 use Rattle.execution.specs.declared.Stop.TheVariants.{Going}
 use Rattle.execution.specs.declared.ExecutionState.{ExecutionState}
@@ -40,7 +39,7 @@ use Rattle.predict.specs.Predict.{Served, served_lanes}
 use Rattle.action.specs.Act.{Lanes, acted, row_ask, asking, with_log, with_served}
 use Rattle.simulation.specs.Represents.{machine, LogIs, Follows, follows_map, sticks, stops, goes}
 use Rattle.simulation.specs.Passes.{no_words, Start, Ended, Ends, Waits, dst_is, out_word, length_words, length_both, missed_stuck, missed_lanes, missed_none, waits_words, waits_missed, answered_word, answered_lane}
-use Rattle.simulation.specs.Reading.{lookup_first, lookup_default, lookup_drop, external_drop, lookup_fallback, external_fallback, assert_eq, assert_ne, assert_any_ne_lem}
+use Rattle.simulation.specs.Reading.{lookup_first, lookup_drop, external_drop, assert_eq, assert_ne, assert_any_ne_lem}
 use Rattle.simulation.specs.Staging.{Kept, Staged, list_pass, if_pass}
 use Rattle.simulation.specs.Serving.{OutIs, Serving, serve_pass}
 use Rattle.simulation.specs.Fits.{Fits}
@@ -109,7 +108,7 @@ module _ (w : List ℕ) (L : ℕ) (s : State) (start : Start s) (x : ExecutionSt
   same_log s' live out p = subst (λ (r : List Record). LogIs w L r s'.counters s'.changed x log index) (sym p.log) (subst (λ (c : List Counter). LogIs w L s.log c s'.changed x log index) (sym p.counters) (subst (λ (b : Bool). LogIs w L s.log s.counters b x log index) (sym p.changed) is))
 
   -- a pass that only reads
-  read_only : (s' : State) (live : List Bool) (words : List ℕ) → Ends s s' live words → Follows s s' x.stop (LanesAre w L s s' (record { live = live; state = x; log = log; index = index; out = words }))
+  pub read_only : (s' : State) (live : List Bool) (words : List ℕ) → Ends s s' live words → Follows s s' x.stop (LanesAre w L s s' (record { live = live; state = x; log = log; index = index; out = words }))
   read_only s' live words e = either (λ q. sticks q) (λ (q : Ended s s' live words). goes (q.passed.status ∙ start.status) on (record {
     bindings = q.passed.bindings;
     answers = q.passed.answers;
@@ -136,17 +135,17 @@ module _ (w : List ℕ) (L : ℕ) (s : State) (start : Start s) (x : ExecutionSt
   -- ## By instruction
 
   module _ (k j : ℕ) where
-    abbrev ran : Instr → State
+    abbrev pub ran : Instr → State
     ran i = body (machine w L) k j (instr_of w i) s
 
-    abbrev left : Instr → Lanes
+    abbrev pub left : Instr → Lanes
     left i = acted w m i begins
 
-    abbrev Lanewise : Instr → Type 0
+    abbrev pub Lanewise : Instr → Type 0
     Lanewise i = Follows s (ran i) (left i).state.stop (LanesAre w L s (ran i) (left i))
 
     -- an answer for every lane drops none
-    given_all : (a b : ℕ → Option ℕ) → ((i : ℕ) → is_some (b i) ≡ true) → united (answered_lanes a (padded s.live)) (answered_lanes b (missed_lanes a (padded s.live))) ≡ padded s.live
+    pub given_all : (a b : ℕ → Option ℕ) → ((i : ℕ) → is_some (b i) ≡ true) → united (answered_lanes a (padded s.live)) (answered_lanes b (missed_lanes a (padded s.live))) ≡ padded s.live
     given_all a b all = is_padded _ s.live start.few (length_both ◌||◌ (answered_lanes a (padded s.live)) (answered_lanes b (missed_lanes a (padded s.live)))) (λ i h. has_both ◌||◌ (answered_lanes a (padded s.live)) (answered_lanes b (missed_lanes a (padded s.live))) i h ∙ rw (answered_lane a (padded s.live) i h, answered_lane b (missed_lanes a (padded s.live)) i h, has_both but_not (padded s.live) (answered_lanes a (padded s.live)) i h, answered_lane a (padded s.live) i h, has_padded s.live i) (lane (get_or s.live i false) (a i) (b i) (all i)))
       where
         lane : (p : Bool) (x y : Option ℕ) → is_some y ≡ true → is_some (only p x) || is_some (only (but_not p (is_some (only p x))) y) ≡ p
@@ -154,61 +153,46 @@ module _ (w : List ℕ) (L : ℕ) (s : State) (start : Start s) (x : ExecutionSt
         lane true (some x) y e = refl
         lane true none y e = e
 
-    ins_2 : (table : TableId) (args : Entries) (col : ColumnId) (dst : Variable) (e : QueryEntry) → Fits w (LookupWithDefault table args col dst e) → Lanewise (LookupWithDefault table args col dst e)
-    unfolding acted asked
-    ins_2 table args col dst e f =
-        subst (λ (live : List Bool). Follows s (ran (LookupWithDefault table args col dst e)) x.stop (LanesAre w L s (ran (LookupWithDefault table args col dst e)) (record { live = live; state = x; log = log; index = index; out = (left (LookupWithDefault table args col dst e)).out })))
-        (sym (given_all (asked w m (row_ask w table args col)) (asked w m (entry_ask e)) (λ i. ap is_some (asked_entry w m e i))))
-        (read_only (ran (LookupWithDefault table args col dst e)) (padded s.live) (left (LookupWithDefault table args col dst e)).out (lookup_default w (λ n. leb n L) k j s start table args col dst e f.0.known f.1 f.2))
-
-    ins_3 : (table : TableId) (args : Entries) (col : ColumnId) (dst : Variable) → Fits w (Lookup table args col dst) → Lanewise (Lookup table args col dst)
+    pub ins_3 : (table : TableId) (args : Entries) (col : ColumnId) (dst : Variable) → Fits w (Lookup table args col dst) → Lanewise (Lookup table args col dst)
     unfolding acted
     ins_3 table args col dst f = read_only _ _ _ (lookup_drop w (λ n. leb n L) k j s start table args col dst f.0.known f.1)
 
-    ins_4 : (table : TableId) (key : Entries) (func : ExternalFunctionId) (args : Entries) (col : ColumnId) (dst : Variable) → Fits w (LookupWithFallback table key func args col dst) → Lanewise (LookupWithFallback table key func args col dst)
-    unfolding acted
-    ins_4 table key func args col dst f = read_only _ _ _ (lookup_fallback w (λ n. leb n L) k j s start table key func args col dst f.0.known f.1 f.2)
-
-    ins_8 : (func : ExternalFunctionId) (args : Entries) (dst : Variable) → Fits w (External func args dst) → Lanewise (External func args dst)
+    pub ins_8 : (func : ExternalFunctionId) (args : Entries) (dst : Variable) → Fits w (External func args dst) → Lanewise (External func args dst)
     unfolding acted
     ins_8 func args dst f = read_only _ _ _ (external_drop w (λ n. leb n L) k j s start func args dst f.0)
 
-    ins_9 : (f1 : ExternalFunctionId) (args1 : Entries) (f2 : ExternalFunctionId) (args2 : Entries) (dst : Variable) → Fits w (ExternalWithFallback f1 args1 f2 args2 dst) → Lanewise (ExternalWithFallback f1 args1 f2 args2 dst)
-    unfolding acted
-    ins_9 f1 args1 f2 args2 dst f = read_only _ _ _ (external_fallback w (λ n. leb n L) k j s start f1 args1 f2 args2 dst f.0 f.1)
-
-    ins_10 : (a b : QueryEntry) → Fits w (AssertEq a b) → Lanewise (AssertEq a b)
+    pub ins_10 : (a b : QueryEntry) → Fits w (AssertEq a b) → Lanewise (AssertEq a b)
     unfolding acted
     ins_10 a b f = read_only _ _ _ (assert_eq w (λ n. leb n L) k j s start a b f.0 f.1)
 
-    ins_11 : (a b : QueryEntry) → Fits w (AssertNe a b) → Lanewise (AssertNe a b)
+    pub ins_11 : (a b : QueryEntry) → Fits w (AssertNe a b) → Lanewise (AssertNe a b)
     unfolding acted
     ins_11 a b f = read_only _ _ _ (assert_ne w (λ n. leb n L) k j s start a b f.0 f.1)
 
-    ins_12 : (ops : Entries) (d : ℕ) → Fits w (AssertAnyNe ops d) → Lanewise (AssertAnyNe ops d)
+    pub ins_12 : (ops : Entries) (d : ℕ) → Fits w (AssertAnyNe ops d) → Lanewise (AssertAnyNe ops d)
     unfolding acted
     ins_12 ops d f = read_only _ _ _ (assert_any_ne_lem w (λ n. leb n L) k j s start ops d f)
 
     -- ## Staged
 
-    ins_5 : (table : TableId) (vals : Entries) → Fits w (Insert table vals) → Lanewise (Insert table vals)
+    pub ins_5 : (table : TableId) (vals : Entries) → Fits w (Insert table vals) → Lanewise (Insert table vals)
     unfolding acted body instr_of
     ins_5 table vals f = follows_map (λ (q : Staged w L index s change.Insert table.0 (width (table_of (machine w L) table.0)) f.0.known refl vals f.1.0.1 f.1.1 _ _). log_only _ _ q.kept q.is)
         (list_pass w L index s change.Insert table.0 (width (table_of (machine w L) table.0)) f.0.known refl vals f.1.0.1 f.1.1 k j start.few (record { state = x; log = log }) start.status on is)
 
-    ins_7 : (table : TableId) (args : Entries) → Fits w (Remove table args) → Lanewise (Remove table args)
+    pub ins_7 : (table : TableId) (args : Entries) → Fits w (Remove table args) → Lanewise (Remove table args)
     unfolding acted body instr_of
     ins_7 table args f = follows_map (λ (q : Staged w L index s change.Remove table.0 (table_of (machine w L) table.0).keys f.0.known refl args f.1.0.1 f.1.1 _ _). log_only _ _ q.kept q.is)
         (list_pass w L index s change.Remove table.0 (table_of (machine w L) table.0).keys f.0.known refl args f.1.0.1 f.1.1 k j start.few (record { state = x; log = log }) start.status on is)
 
-    ins_6 : (table : TableId) (a b : QueryEntry) (vals : Entries) → Fits w (InsertIfEq table a b vals) → Lanewise (InsertIfEq table a b vals)
+    pub ins_6 : (table : TableId) (a b : QueryEntry) (vals : Entries) → Fits w (InsertIfEq table a b vals) → Lanewise (InsertIfEq table a b vals)
     unfolding acted body instr_of
     ins_6 table a b vals f = follows_map (λ (q : Staged w L index s change.Insert table.0 (width (table_of (machine w L) table.0)) f.0.known refl vals f.3.0.1 f.3.1 _ _). log_only _ _ q.kept q.is)
         (if_pass w L index s change.Insert table.0 (width (table_of (machine w L) table.0)) f.0.known refl vals f.3.0.1 f.3.1 a b f.1 f.2 k j start.few (record { state = x; log = log }) start.status on is)
 
     -- ## A counter's next
 
-    ins_13 : (c : CounterId) (dst : Variable) → Fits w (ReadCounter c dst) → Lanewise (ReadCounter c dst)
+    pub ins_13 : (c : CounterId) (dst : Variable) → Fits w (ReadCounter c dst) → Lanewise (ReadCounter c dst)
     unfolding acted body instr_of asked
     ins_13 c dst f = goes start.status on (record {
       bindings = refl;
@@ -241,7 +225,7 @@ module _ (w : List ℕ) (L : ℕ) (s : State) (start : Start s) (x : ExecutionSt
 
     -- ## The missed lanes are served
 
-    ins_1 : L ≤ 16384 → (table : TableId) (args vals : Entries) (col : ColumnId) (dst : Variable) → Fits w (LookupOrInsertDefault table args vals col dst) → Lanewise (LookupOrInsertDefault table args vals col dst)
+    pub ins_1 : L ≤ 16384 → (table : TableId) (args vals : Entries) (col : ColumnId) (dst : Variable) → Fits w (LookupOrInsertDefault table args vals col dst) → Lanewise (LookupOrInsertDefault table args vals col dst)
     unfolding acted body instr_of
     ins_1 short table args vals col dst f = either stuck_first served (lookup_first w (λ n. leb n L) k j s start table args col f.0.known f.1)
       where
@@ -298,18 +282,3 @@ module _ (w : List ℕ) (L : ℕ) (s : State) (start : Start s) (x : ExecutionSt
               out = out_column (length s₁.live) s₂.out (served_lanes w m (asking w table args vals col) who c₀).out few₁ v.out ∙ ap (λ (l : List Bool). take (length l) (served_lanes w m (asking w table args vals col) who c₀).out) q.passed.live_is;
               is = v.is;
             })
-
-    pub body_follows : L ≤ 16384 → (i : Instr) → Fits w i → Lanewise i
-    body_follows short (LookupOrInsertDefault table args vals col dst) f = ins_1 short table args vals col dst f
-    body_follows short (LookupWithDefault table args col dst e) f = ins_2 table args col dst e f
-    body_follows short (Lookup table args col dst) f = ins_3 table args col dst f
-    body_follows short (LookupWithFallback table key func args col dst) f = ins_4 table key func args col dst f
-    body_follows short (Insert table vals) f = ins_5 table vals f
-    body_follows short (InsertIfEq table a b vals) f = ins_6 table a b vals f
-    body_follows short (Remove table args) f = ins_7 table args f
-    body_follows short (External func args dst) f = ins_8 func args dst f
-    body_follows short (ExternalWithFallback f1 args1 f2 args2 dst) f = ins_9 f1 args1 f2 args2 dst f
-    body_follows short (AssertEq a b) f = ins_10 a b f
-    body_follows short (AssertNe a b) f = ins_11 a b f
-    body_follows short (AssertAnyNe ops d) f = ins_12 ops d f
-    body_follows short (ReadCounter c dst) f = ins_13 c dst f

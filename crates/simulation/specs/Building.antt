@@ -1,6 +1,6 @@
 -- A row is built in the code as in the machine: the same words, from the same counters.
 use Prim.Native.Nat.{ℕ, zero, suc, ◌+◌, ◌*◌, ◌<◌, ◌≤◌}
-use Rattle.std.specs.Prelude.{◌≡◌, Bool, true, false, not, cond, length, take}
+use Rattle.std.specs.Prelude.{◌≡◌, true, false, not, length, take}
 use Rattle.std.proofs.Math.Path.{refl, ap}
 use Rattle.std.proofs.Common.{sym, ◌∙◌, subst, add-zero, add-suc, arith, get_or-take, length-append, length-take}
 use Rattle.std.proofs.Math.Option.{Option, none, some}
@@ -8,7 +8,7 @@ use mathlib.Core.List.{List, [], ◌∷◌, ◌++◌}
 use Rattle.std.proofs.lemmas.List.{take-append-le}
 use Rattle.std.proofs.Math.Seq.{take-length}
 use Rattle.std.proofs.Math.ListN.{get_or, get_elem?, set, length-set}
-use Rattle.model.specs.Basics.{iter, when, found, tab}
+use Rattle.model.specs.Basics.{found, tab}
 use Rattle.model.specs.Book.Syntax.{Counter, no_counter}
 use Rattle.model.specs.Book.Syntax as syntax
 use Rattle.model.specs.Book.Contents.{counter_count}
@@ -24,12 +24,11 @@ use Rattle.counter.specs.declared.Counters.{Counters}
 use Rattle.counter.specs.CounterLaws.{padded, get_or_padded, set_padded}
 use Rattle.bindings.specs.Columns.{word_of}
 use Rattle.bindings.specs.BindingLaws.{Named}
-use Rattle.instr.specs.declared.Entries.{Entries}
 use Rattle.instr.specs.declared.QueryEntry.{QueryEntry}
 use Rattle.instr.specs.declared.WriteVal.{WriteVal}
 use Rattle.instr.specs.declared.WriteVal.TheVariants.{QueryEntry as Entry, IncCounter, CurrentVal}
 use Rattle.instr.specs.Instr.{write_at}
-use Rattle.instr.specs.Meaning.{entry_of, write_of, writes_of}
+use Rattle.instr.specs.Meaning.{entry_of, write_of}
 use Rattle.instr.specs.InstrLaws.{write_at_lem}
 use Rattle.build.specs.declared.Building.{Building}
 use Rattle.build.specs.Build as code

@@ -1,15 +1,15 @@
 -- The end of a run: its start, that it is never stuck, and what the commit and the answer come to.
-use Rattle.std.specs.Prelude.{ℕ, zero, suc, ◌+◌, ◌-◌, ◌^◌, ◌<◌, ◌≤◌, ◌≡◌, refl, ◌≢◌, Bool, true, false, not, cond, List, [], ◌∷◌, ◌++◌, map, reverse, ltb, leb, length, get_or, take, drop, replicate}
+use Rattle.std.specs.Prelude.{ℕ, ◌-◌, ◌^◌, ◌<◌, ◌≤◌, ◌≡◌, refl, ◌≢◌, false, cond, List, ◌++◌, ltb, leb, length, take, replicate}
 use Rattle.std.proofs.Common.{sym, ap, ◌∙◌, subst, arith}
-use Rattle.std.proofs.Math.Option.{Option, none, some}
+use Rattle.std.proofs.Math.Option.{none}
 use Rattle.std.proofs.lemmas.List.{length-replicate}
-use Rattle.model.specs.Basics.{All, tab, join}
+use Rattle.model.specs.Basics.{All, tab}
 use Rattle.model.specs.Book.Syntax.{Table}
 use Rattle.model.specs.Book.Words.{Byte}
 use Rattle.model.specs.Book.Words as model
 use Rattle.model.specs.Book.Contents.{counter_count, table_count, step_count}
-use Rattle.model.specs.Book.Read.{tables, rules, counters, steps}
-use Rattle.model.specs.Machine.State.{State, Record, stuck, log_words}
+use Rattle.model.specs.Book.Read.{tables, counters, steps}
+use Rattle.model.specs.Machine.State.{State, stuck}
 use Rattle.model.specs.Machine.Functions.{apply}
 use Rattle.model.specs.Machine.Steps.{fresh, run}
 use Rattle.model.specs.Commit.{commit}
@@ -18,7 +18,8 @@ use Rattle.model.specs.Outcome.{book_refusal}
 use Rattle.model.specs.Laws.Lists.{length_tab}
 use Rattle.model.specs.Laws.Book.{Readable}
 use Rattle.model.specs.Safety.Instance.{functions_fine}
-use Rattle.model.specs.Safety.BookClaims.{demand3, own_steps_lem}
+use Rattle.model.specs.Safety.BookClaims.{own_steps_lem}
+use Rattle.model.proofs.Safety.{demand3}
 use Rattle.counter.specs.CounterLaws.{padded}
 use Rattle.record_log.specs.Log.{log_of}
 use Rattle.record_log.specs.LogLaws.{no_records, used_words}
@@ -30,14 +31,13 @@ use Rattle.record_log.specs.RecordLaws.{records_of}
 use Rattle.commit.specs.CommitLaws.{over_is}
 use Rattle.execution.specs.declared.Stop.TheVariants.{Going}
 use Rattle.execution.specs.declared.ExecutionState.{ExecutionState}
-use Rattle.answer.specs.declared.Assembled.{Assembled}
 use Rattle.answer.specs.declared.Assembled.TheVariants.{Words, Over}
 use Rattle.answer.specs.Layout.{Results, results_of, left_by, assembled, assembled_length, Enough}
-use Rattle.answer.specs.AnswerLaws.{Tabled, Told, with_steps, committed_tabled, enough, assembled_length_lem, assembled_is}
+use Rattle.answer.specs.AnswerLaws.{Tabled, Told, committed_tabled, enough, assembled_length_lem, assembled_is}
 use Rattle.answer.specs.Scratch.{scratch_none}
 use Rattle.run.specs.declared.Progress.{Progress}
 use Rattle.run.specs.Progress.{Ran}
-use Rattle.simulation.specs.Represents.{machine, LogIs}
+use Rattle.simulation.specs.Represents.{machine}
 use Rattle.simulation.specs.Runs.{words_of, RunIs}
 
 -- ## The start

@@ -4,9 +4,9 @@ use Rattle.std.specs.Prelude.{◌≡◌, refl, Bool, true, false, ◌&&◌, cond
 use Rattle.std.proofs.Common.{sym, subst, leb-true, arith}
 use Rattle.model.specs.Laws.Logic.{and_split}
 use Rattle.model.specs.Basics.{tab}
-use Rattle.model.specs.Book.Layout.{Field, entries, writes, form_of}
+use Rattle.model.specs.Book.Layout.{entries, writes, form_of}
 use Rattle.model.specs.Book.Contents.{table_count, counter_count}
-use Rattle.model.specs.Book.Scan.{fine, three, up_to, tagged, opcode}
+use Rattle.model.specs.Book.Scan.{fine, three, tagged, opcode}
 use Rattle.model.specs.Book.Decode.{after, past}
 use Rattle.model.specs.Book.Read.{sizes}
 use Rattle.model.specs.Laws.Scan.{PairOk, FieldOk, FieldsOk, InstrOk, up_to_fine, below_fine}

@@ -1,46 +1,41 @@
--- The run of a book's steps: the code's is the machine's, step by step, with the bodies of the answers at the front of the answer's words.
-use Prim.Native.Nat.{ℕ, zero, suc, ◌+◌, ◌-◌, ◌<◌, ◌≤◌}
-use Rattle.std.specs.Prelude.{◌≡◌, Bool, cond, eqb, get_or, set, take}
+-- A run of a book's steps in the code and in the machine, with the bodies of the answers at the front of the answer's words; `proofs/Runs` goes step by step.
+use Prim.Native.Nat.{ℕ, suc, ◌+◌, ◌-◌, ◌<◌, ◌≤◌}
+use Rattle.std.specs.Prelude.{◌≡◌, Bool, cond, get_or, set, take}
 use Rattle.std.proofs.Math.Path.{refl, sym, ap, subst}
-use Rattle.std.proofs.Common.{◌∙◌, arith, take-suc-set, eq-eqb}
+use Rattle.std.proofs.Common.{◌∙◌, arith, take-suc-set}
 use Rattle.std.proofs.Math.Bool.{true, false, not}
 use Rattle.std.proofs.Math.Option.{Option, none, some}
 use mathlib.Core.List.{List, [], ◌∷◌, ◌++◌, map, map-append, reverse, reverse-cons, append-nil, append_assoc}
 use Rattle.std.proofs.Math.ListN.{length, get_elem?, length-append, length-set}
-use Rattle.model.specs.Basics.{when, found, join, tab, least}
-use Rattle.model.specs.Book.Syntax.{Step}
+use Rattle.model.specs.Basics.{found, join, tab, least}
 use Rattle.model.specs.Book.Words.{Refusal}
-use Rattle.model.specs.Book.Contents.{count, first_of, end_of, kind_of, first_step, step_count}
+use Rattle.model.specs.Book.Contents.{first_of, end_of, kind_of, first_step, step_count}
 use Rattle.model.specs.Book.Decode.{read_batch, read_prediction}
 use Rattle.model.specs.Book.Read.{rules, step_fits, steps, steps_refusal, counters}
 use Rattle.model.specs.Book.Read as read
-use Rattle.model.specs.Machine.State.{State, Answer, survivors, predicted, going, stuck, is_going}
-use Rattle.model.specs.Machine.Steps.{fresh, step, run}
+use Rattle.model.specs.Machine.State.{State, Answer, predicted, going, stuck}
+use Rattle.model.specs.Machine.Steps.{step, run}
 use Rattle.model.specs.Answer.{step_body}
-use Rattle.model.specs.Laws.Logic.{either, none_some}
+use Rattle.model.specs.Laws.Logic.{none_some}
 use Rattle.model.specs.Laws.Lists.{least_none}
-use Rattle.model.specs.Laws.Turns.{when_T, when_F}
 use Rattle.model.specs.Laws.Book.{Readable, few_steps}
-use Rattle.model.specs.Laws.Kinds.{step_kind_lem}
 use Rattle.rules.specs.RuleLaws.{at_tab}
 use Rattle.rules.specs.StepLaws.{step_batch, step_prediction}
 use Rattle.execution.specs.declared.Stop.TheVariants.{Going}
 use Rattle.execution.specs.declared.ExecutionState.{ExecutionState}
-use Rattle.execution.specs.Execution.{goes_on, is_going as code_goes}
+use Rattle.execution.specs.Execution.{goes_on}
 use Rattle.predict.specs.Predict.{Gotten}
 use Rattle.action.specs.Run.{Running}
 use Rattle.step.specs.Steps.{IsStep, ran_batch, asked_row}
-use Rattle.step.specs.StepsLaws.{batch_facts, columns_within, prediction_facts, writes_within}
+use Rattle.step.specs.StepsLaws.{prediction_facts, writes_within}
 use Rattle.answer.specs.Layout.{step_kind}
 use Rattle.answer.specs.AnswerLaws.{step_words}
-use Rattle.step_bodies.specs.Steps.{placed, batch_words}
-use Rattle.bindings.specs.Columns.{columns_of}
-use Rattle.step_bodies.specs.StepLaws as told
+use Rattle.step_bodies.specs.Steps.{placed}
 use Rattle.answer.specs.Scratch.{Scratch, scratch_more}
 use Rattle.run.specs.Progress.{Ran, halted, batch_told, row_told, body_of, row_body, batch_step, prediction_step, ran_step, ran_next, ran_steps}
 use Rattle.run.specs.Progress as flat
-use Rattle.simulation.specs.Represents.{machine, LogIs, status_of, Follows, sticks, stops, goes, not_going}
-use Rattle.simulation.specs.Steps.{last, BatchDone, batch_follows, RowDone, prediction_follows}
+use Rattle.simulation.specs.Represents.{machine, LogIs, status_of, Follows, sticks, stops, goes}
+use Rattle.simulation.specs.Steps.{RowDone, prediction_follows}
 
 -- the words of the bodies of answers, newest first
 abbrev pub words_of : List Answer → List ℕ
@@ -76,7 +71,7 @@ words_more x as' = ap (λ (l : List Answer). join (map step_words l)) (reverse-c
 -- ## One answer more
 
 module _ (w : List ℕ) (L k : ℕ) (below : k < 64) (s : State) (a : Ran) (r : RunIs w L k s a) where
-  answered_more : (x : Answer) (s' : State) (z : ExecutionState) (b log index : List ℕ) → s'.answers ≡ x ∷ s.answers → (step_body x).kind ≡ kind_of_step w k → LogIs w L s'.log s'.counters s'.changed z log index
+  pub answered_more : (x : Answer) (s' : State) (z : ExecutionState) (b log index : List ℕ) → s'.answers ≡ x ∷ s.answers → (step_body x).kind ≡ kind_of_step w k → LogIs w L s'.log s'.counters s'.changed z log index
       → RunIs w L (suc k) s' (record { progress = flat.told z (step_words x) a.progress; bindings = b; log = log; index = index; answer = placed (step_words x) a.progress.at a.answer })
   unfolding tab
   answered_more x s' z b log index e kind is = record {
@@ -121,10 +116,10 @@ module _ (w : List ℕ) (h : Readable w) (L : ℕ) (short : L ≤ 16384) (no_ste
     abbrev at : ℕ
     at = first_of w i
 
-    is_step_lem : IsStep w i
+    pub is_step_lem : IsStep w i
     is_step_lem = record { number = k; below = l; entry = refl }
 
-    below_64 : k < 64
+    pub below_64 : k < 64
     below_64 = omega (arith, few_steps w h)
 
     module _ (kind : kind_of w i ≡ 4) where
@@ -134,37 +129,8 @@ module _ (w : List ℕ) (h : Readable w) (L : ℕ) (short : L ≤ 16384) (no_ste
       abbrev s₁ : State
       s₁ = step (machine w L) k (read_batch w at) s
 
-      fit_batch : step_fits (read.tables w) (rules w) (read_batch w at) ≡ true
+      pub fit_batch : step_fits (read.tables w) (rules w) (read_batch w at) ≡ true
       fit_batch = ap (step_fits (read.tables w) (rules w)) (step_batch w h k i at l refl refl kind) ∙ fits_all k l
-
-      batch_turn : Runs w L (suc k) s₁ (batch_step w i a)
-      unfolding batch_step
-      batch_turn = by (batch_follows w h L short at (end_of w i) (batch_facts h is_step_lem kind) (columns_within h is_step_lem kind) fit_batch k s a.progress.state a.log a.index going-s going-a r.is)
-        where
-          last_of : State
-          last_of = last w h L short at (end_of w i) (batch_facts h is_step_lem kind) (columns_within h is_step_lem kind) fit_batch k s a.progress.state a.log a.index going-s going-a r.is
-
-          Done : Type 0
-          Done = BatchDone w h L short at (end_of w i) (batch_facts h is_step_lem kind) (columns_within h is_step_lem kind) fit_batch k s a.progress.state a.log a.index going-s going-a r.is s₁
-
-          by : Follows s s₁ b.batch.state.stop Done → Runs w L (suc k) s₁ (batch_told b a)
-          by (sticks e) = sticking e
-          by (stops x y z) = subst (λ (u : Bool). Runs w L (suc k) s₁ (cond u (record { progress = flat.told b.batch.state (body_of b) a.progress; bindings = b.bindings; log = b.log; index = b.index; answer = placed (body_of b) a.progress.at a.answer }) (record { progress = halted b.batch.state a.progress; bindings = b.bindings; log = b.log; index = b.index; answer = a.answer }))) (sym x)
-              (stopped x y (r.done ∙ sym r.count ∙ ap length (sym z)))
-          by (goes x y d) =
-              let q = d.batch_is in
-              let end : State = last_of in
-              let body : body_of b ≡ step_words (survivors end.bindings end.live) =
-              ap (λ (n : ℕ). batch_words n b.batch.bindings.bound.known b.bindings b.batch.mask.live) q.lanes
-              ∙ ap (λ (m : List ℕ). batch_words (length end.live) b.batch.bindings.bound.known m b.batch.mask.live) q.bindings
-              ∙ ap (batch_words (length end.live) b.batch.bindings.bound.known (columns_of end.bindings)) q.live
-              ∙ told.batch_is end.bindings end.live b.batch.bindings.bound.known q.few (λ v _. q.bound_is v) (λ v c _ e. q.columns v c e) in
-              subst (λ (u : Bool). Runs w L (suc k) s₁ (cond u (record { progress = flat.told b.batch.state (body_of b) a.progress; bindings = b.bindings; log = b.log; index = b.index; answer = placed (body_of b) a.progress.at a.answer }) (record { progress = halted b.batch.state a.progress; bindings = b.bindings; log = b.log; index = b.index; answer = a.answer }))) (sym (ap goes_on y))
-              (subst (λ (l : List ℕ). Runs w L (suc k) s₁ (record { progress = flat.told b.batch.state l a.progress; bindings = b.bindings; log = b.log; index = b.index; answer = placed l a.progress.at a.answer })) (sym body)
-              (going_on x y
-              (answered_more w L k below_64 s a r (survivors end.bindings end.live) s₁ b.batch.state b.bindings b.log b.index
-              (ap (λ (t : State). t.answers) d.ends ∙ ap (λ (l : List Answer). survivors end.bindings end.live ∷ l) q.answered) (sym (ap step_kind kind))
-              (subst (λ (t : State). LogIs w L t.log t.counters t.changed b.batch.state b.log b.index) (sym d.ends) q.is))))
 
     module _ (kind : kind_of w i ≡ 5) where
       abbrev g : Gotten
@@ -185,7 +151,7 @@ module _ (w : List ℕ) (h : Readable w) (L : ℕ) (short : L ≤ 16384) (no_ste
       key_within : at + 2 + get_or w (at + 1) 0 ≤ length w
       key_within = omega (arith, writes_within h is_step_lem kind)
 
-      prediction_turn : Runs w L (suc k) s₂ (prediction_step w i a)
+      pub prediction_turn : Runs w L (suc k) s₂ (prediction_step w i a)
       unfolding prediction_step
       prediction_turn = by (prediction_follows w h L short at (end_of w i) (prediction_facts h is_step_lem kind) key_within fit_prediction k s a.progress.state a.bindings a.log a.index going-s going-a r.is)
         where
@@ -201,46 +167,11 @@ module _ (w : List ℕ) (h : Readable w) (L : ℕ) (short : L ≤ 16384) (no_ste
               (subst (λ (l : List ℕ). Runs w L (suc k) s₂ (record { progress = flat.told g.got.state l a.progress; bindings = a.bindings; log = g.log; index = g.index; answer = placed l a.progress.at a.answer })) (sym body)
               (going_on x y (answered_more w L k below_64 s a r (predicted q.made q.row) s₂ g.got.state a.bindings g.log g.index q.answered (sym (ap step_kind kind)) q.log_is)))
 
-    step_turn : Runs w L (suc k) (step (machine w L) k (read.step w k) s) (ran_step w i a)
-    step_turn = either
-        (λ (e : kind_of w i ≡ 4). subst (λ (st : Step). Runs w L (suc k) (step (machine w L) k st s) (ran_step w i a)) (step_batch w h k i at l refl refl e) (subst (λ (u : Bool). Runs w L (suc k) (s₁ e) (cond u (batch_step w i a) (prediction_step w i a))) (sym (eq-eqb (kind_of w i) 4 e)) (batch_turn e)))
-        (λ (e : kind_of w i ≡ 5). subst (λ (st : Step). Runs w L (suc k) (step (machine w L) k st s) (ran_step w i a)) (step_prediction w h k i at l refl refl e) (subst (λ (n : ℕ). Runs w L (suc k) (s₂ e) (cond (eqb n 4) (batch_step w i a) (prediction_step w i a))) (sym e) (prediction_turn e)))
-        (step_kind_lem w h.contents h.bodies k l)
-
   -- ## All steps
 
   abbrev ran : ℕ → State
   ran n = run (machine w L) (counters w) (steps w) n
 
-  its_step : (k : ℕ) → k < step_count w → get_elem? (steps w) k ≡ some (read.step w k)
+  pub its_step : (k : ℕ) → k < step_count w → get_elem? (steps w) k ≡ some (read.step w k)
   unfolding steps
   its_step k l = at_tab (read.step w) (step_count w) k l
-
-  module _ (a₀ : Ran) (start : RunIs w L 0 (fresh (counters w)) a₀) (on : a₀.progress.state.stop ≡ Going) where
-    pub run_follows : (n : ℕ) → n ≤ step_count w → Runs w L n (ran n) (ran_steps w n a₀)
-    unfolding run ran_steps ran_next
-    run_follows zero l = going_on refl on start
-    run_follows (suc n) l = by (run_follows n (omega arith))
-      where
-        s : State
-        s = ran n
-
-        a : Ran
-        a = ran_steps w n a₀
-
-        act : State → State
-        act s' = found (get_elem? (steps w) n) (λ st. step (machine w L) n st s') (λ _. s')
-
-        acts : act s ≡ step (machine w L) n (read.step w n) s
-        acts = rw (its_step n (omega arith))
-
-        by : Runs w L n s a → Runs w L (suc n) (when (is_going s.status) act s) (ran_next w a)
-        by (sticking e) = sticking (ap (λ (t : State). t.status) (when_F (is_going s.status) act s (ap is_going e)) ∙ e)
-        by (stopped x y z) =
-            let e : when (is_going s.status) act s ≡ s = when_F (is_going s.status) act s (not_going a.progress.state.stop s.status x y) in
-            let c : ran_next w a ≡ a = when_F (code_goes a.progress.state) (ran_step w (first_step w + a.progress.done)) a x in
-            subst (λ (t : State). Runs w L (suc n) t (ran_next w a)) (sym e) (subst (λ (b : Ran). Runs w L (suc n) s b) (sym c) (stopped x y z))
-        by (going_on x y r) =
-            let e : when (is_going s.status) act s ≡ step (machine w L) n (read.step w n) s = when_T (is_going s.status) act s (ap is_going x) ∙ acts in
-            let c : ran_next w a ≡ ran_step w (first_step w + n) a = when_T (code_goes a.progress.state) (ran_step w (first_step w + a.progress.done)) a (ap goes_on y) ∙ ap (λ (k : ℕ). ran_step w (first_step w + k) a) r.done in
-            subst (λ (t : State). Runs w L (suc n) t (ran_next w a)) (sym e) (subst (λ (b : Ran). Runs w L (suc n) (step (machine w L) n (read.step w n) s) b) (sym c) (step_turn n (omega arith) s a x y r))

@@ -9,7 +9,7 @@ use Rattle.std.proofs.Math.ListN.{length, get_or, get_elem?, get_or-eq_default}
 use Rattle.std.proofs.Math.Seq.{get_or-set_other}
 use Rattle.model.specs.Basics.{All}
 use Rattle.model.specs.Book.Syntax.{QueryEntry}
-use Rattle.model.specs.Machine.State.{State, Bindings, going, stop, note, reads, took, asks, give}
+use Rattle.model.specs.Machine.State.{State, Bindings, going, note, reads, took, asks, give}
 use Rattle.model.specs.Book.Contents.{first_of}
 use Rattle.model.specs.Book.Decode.{part, read_table}
 use Rattle.model.specs.Machine.Values.{hold, values_of, list_of, find}

@@ -10,7 +10,7 @@ use Rattle.std.proofs.Math.ListN.{get_or, get_or-eq_default}
 use Rattle.model.specs.Basics.{when, All}
 use Rattle.model.specs.Book.Syntax.{Counter}
 use Rattle.model.specs.Book.Contents.{table_count}
-use Rattle.model.specs.Machine.State.{State, Site, Record, record_size, going, stop, note, reads, change, if_room, log_words}
+use Rattle.model.specs.Machine.State.{State, Site, Record, record_size, going, note, reads, change, if_room, log_words}
 use Rattle.model.specs.Machine.Values.{value_of, list_of}
 use Rattle.model.specs.Machine.Steps.{here, is_live, lanes, table_of, read_pair_lem, stage_list}
 use Rattle.model.specs.Answer.{record_words}

@@ -21,7 +21,7 @@ use Rattle.model.specs.Machine.Steps.{here, all_live, begin, end, table_of, pred
 use Rattle.model.specs.Laws.Logic.{and_split, some_inj, none_some, at_below, at_length}
 use Rattle.model.specs.Laws.Lists.{length_tab}
 use Rattle.model.specs.Laws.Turns.{need_ind, when_T, when_F}
-use Rattle.model.specs.Laws.Book.{Readable, keys_of, width_of, rule_is, table_is}
+use Rattle.model.specs.Laws.Book.{Readable, keys_of, width_of, table_is}
 use Rattle.model.specs.Laws.Bodies.{length_part}
 use Rattle.model.specs.Laws.Scan.{BatchWords, PredictionWords}
 use Rattle.model.specs.Laws.Kinds.{rule_read}
@@ -56,7 +56,7 @@ use Rattle.simulation.specs.Represents.{machine, LogIs, ListIs, key_front, Follo
 use Rattle.simulation.specs.Building.{Writable, ReadsAs}
 use Rattle.simulation.specs.Predicting.{TableOk, HasRow, got_read, got_ind}
 use Rattle.simulation.specs.Fits.{Fits, fits, table_ok, writable_at}
-use Rattle.simulation.specs.Batches.{is_bound, BatchIs, instrs_follow}
+use Rattle.simulation.specs.Batches.{is_bound, BatchIs}
 
 -- ## A batch begins
 
@@ -104,7 +104,7 @@ module _ (w : List ℕ) (h : Readable w) (L : ℕ) (short : L ≤ 16384) where
       abbrev r₀ : Running
       r₀ = start_batch w at x log index
 
-      started : BatchIs w L s.answers s₀ r₀
+      pub started : BatchIs w L s.answers s₀ r₀
       unfolding begin
       started = record {
         is = is;
@@ -129,15 +129,15 @@ module _ (w : List ℕ) (h : Readable w) (L : ℕ) (short : L ≤ 16384) where
       instr_here : (j : ℕ) → j < many → At w (get_or w at 0) j (instr_place w (rule_of w at) j) (code.instr_at w (instr_place w (rule_of w at) j))
       instr_here j l = record { readable = h; rule = words.rule; below = l; place = refl; is = refl }
 
-      its : (j : ℕ) → j < many → get_elem? rule.instrs j ≡ some (instr_at w (instr_place w (rule_of w at) j))
+      pub its : (j : ℕ) → j < many → get_elem? rule.instrs j ≡ some (instr_at w (instr_place w (rule_of w at) j))
       unfolding read_rule
       its j l = at_tab (λ j. instr_at w (instr_place w (rule_of w at) j)) many j l
 
-      count_is : length rule.instrs ≡ many
+      pub count_is : length rule.instrs ≡ many
       unfolding read_rule
       count_is = length_tab (λ j. instr_at w (instr_place w (rule_of w at) j)) many
 
-      all_fit : (j : ℕ) → j < many → Fits w (code.instr_at w (instr_place w (rule_of w at) j))
+      pub all_fit : (j : ℕ) → j < many → Fits w (code.instr_at w (instr_place w (rule_of w at) j))
       all_fit j l = fits w h (end_of w (first_rule w + get_or w at 0)) (instr_place w (rule_of w at) j) (small_here (instr_here j l)) ((rule_read w h.contents h.bodies (get_or w at 0) words.rule).1.instrs j l)
 
       abbrev pub last : State
@@ -150,7 +150,7 @@ module _ (w : List ℕ) (h : Readable w) (L : ℕ) (short : L ≤ 16384) where
         pub batch_is : BatchIs w L s.answers last r
         pub ends : s' ≡ reply (survivors last.bindings last.live) last
 
-      ended : Follows s₀ last r.batch.state.stop (BatchIs w L s.answers last r) → Follows s (end last) r.batch.state.stop (BatchDone (end last))
+      pub ended : Follows s₀ last r.batch.state.stop (BatchIs w L s.answers last r) → Follows s (end last) r.batch.state.stop (BatchDone (end last))
       unfolding end begin
       ended (sticks e) = sticks (ap (λ (t : State). t.status) (when_F (is_going last.status) _ last (ap is_going e)) ∙ e)
       ended (stops p q z) =
@@ -159,13 +159,6 @@ module _ (w : List ℕ) (h : Readable w) (L : ℕ) (short : L ≤ 16384) where
       ended (goes p q z) =
           let e = when_T (is_going last.status) (reply (survivors last.bindings last.live)) last (ap is_going p) in
           goes (ap (λ (t : State). t.status) e ∙ p) q (record { batch_is = z; ends = e })
-
-      pub batch_follows : let s' : State = step (machine w L) k (read_batch w at) s in Follows s s' r.batch.state.stop (BatchDone s')
-      unfolding step read_batch ran_batch begin
-      batch_follows =
-          subst (λ (u : Rule). let s' : State = end (instructions (machine w L) k u (length u.instrs) (begin k u n columns s)) in Follows s s' r.batch.state.stop (BatchDone s')) (sym (rule_is w (get_or w at 0) words.rule))
-          (subst (λ (u : ℕ). let s' : State = end (instructions (machine w L) k rule u s₀) in Follows s s' r.batch.state.stop (BatchDone s')) (sym count_is)
-          (ended (instrs_follow w L short s.answers k (rule_of w at) many all_fit rule its s₀ r₀ a o started many (omega arith))))
 
   -- ## A prediction
 

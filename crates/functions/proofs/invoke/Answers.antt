@@ -7,6 +7,7 @@ use lib.ListN.{length, get_or}
 use Rattle.model.specs.Laws.Iter.{above}
 use Rattle.model.specs.Machine.Functions.{of_two, function_of, arity, apply}
 use Rattle.functions.specs.FunctionLaws.{some_argument, answered, answered_by_two, other_counts, no_function_lem}
+use borrow.Author.Rules.{rules}
 use Rattle.functions.proofs.invoke.Goals as goal
 use Rattle.functions.proofs.invoke.Goals.{Else-n-arity}
 
@@ -55,7 +56,7 @@ returns-in-5 c = arm (goal.at.returns-in-5 c).Else-n-arity 5 _ _ c.in-5.is refl 
 pub returns-in-6 : goal.returns-in-6
 returns-in-6 c =
     let a = c.args in
-    answered a.func.0 6 a.args.now _ c.in-6.is (many (goal.at.returns-in-6 c).Else-n-arity) c.load_band.ensures
+    answered a.func.0 6 a.args.now _ c.in-6.is (many (goal.at.returns-in-6 c).Else-n-arity) (search rules)
 
 pub returns-in-7 : goal.returns-in-7
 returns-in-7 c = arm (goal.at.returns-in-7 c).Else-n-arity 7 _ _ c.in-7.is refl c.distance.ensures

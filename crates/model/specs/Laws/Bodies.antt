@@ -8,7 +8,7 @@ use Rattle.std.proofs.Math.ListN.{get_or, get_elem?}
 use Rattle.model.specs.Basics.{All}
 use Rattle.model.specs.Book.Syntax.{stale, Clean, WriteVal, Entry, IncCounter, CurrentVal, Instr}
 use Rattle.model.specs.Book.Layout.{entries, writes, form_of}
-use Rattle.model.specs.Book.Scan.{fine, three, Sizes, opcode, clean, tag, tagged}
+use Rattle.model.specs.Book.Scan.{fine, three, Sizes, opcode, tag, tagged}
 use Rattle.model.specs.Book.Decode.{part, entry_of, write_of, entry_at, write_at, entries_at, writes_at, past, instr_at, instr_place, read_table, read_rule, row_place}
 use Rattle.model.specs.Book.Read.{repeated}
 use Rattle.model.specs.Check.{reads_of, entries_of}

@@ -1,24 +1,24 @@
--- Each instruction keeps the invariant, and gives a dst to each lane that stays live.
+-- Each instruction without a lookup keeps the invariant, and gives a dst to each lane that stays live. The lookups stand in `proofs/Safety`.
 use Prim.Native.Nat.{ℕ, zero, suc, ◌<◌}
 use Rattle.std.proofs.Common.{arith, sym, ◌∙◌}
-use Rattle.std.specs.Prelude.{◌≡◌, Bool, List, [], ◌∷◌, ◌++◌, T, get_or, replicate}
+use Rattle.std.specs.Prelude.{◌≡◌, Bool, List, [], ◌∷◌, T, get_or, replicate}
 use Rattle.std.proofs.Math.Path.{refl, subst}
 use Rattle.std.proofs.Math.Bool.{not}
 use Rattle.std.proofs.Math.Option.{Option, none, some}
 use Rattle.std.proofs.Math.Dec.{eqb}
 use Rattle.std.proofs.Math.ListN.{length, length-replicate, get_or-replicate}
 use Rattle.model.specs.Basics.{when, All}
-use Rattle.model.specs.Book.Syntax.{Clean, no_counter, next_of, QueryEntry, Instr, LookupOrInsertDefault, LookupWithDefault, Lookup, LookupWithFallback, Insert, InsertIfEq, Remove, External, ExternalWithFallback, AssertEq, AssertNe, AssertAnyNe, ReadCounter, dst_of, width}
+use Rattle.model.specs.Book.Syntax.{Clean, no_counter, next_of, QueryEntry, Instr, Insert, InsertIfEq, Remove, External, ExternalWithFallback, AssertEq, AssertNe, AssertAnyNe, ReadCounter, dst_of, width}
 use Rattle.model.specs.Machine.State.{State, Site, is_going, Env, lose}
 use Rattle.model.specs.Machine.Values.{hold}
-use Rattle.model.specs.Machine.Steps.{here, table_of, lookup, invoke, take_default, stage_list, read_pair_lem, lanes, wait, plain, body}
-use Rattle.model.specs.Check.{Sound, sizes_of, reads_of, held_of, columns_of, IsKnown, entries_of}
+use Rattle.model.specs.Machine.Steps.{here, table_of, invoke, stage_list, read_pair_lem, lanes, wait, plain, body}
+use Rattle.model.specs.Check.{Sound, sizes_of, reads_of, held_of, columns_of, IsKnown}
 use Rattle.model.specs.Laws.Supposed.{TableOk, CleanConst, CounterOk}
 use Rattle.model.specs.Laws.Logic.{none_some, when_ind, All-get_or, All-left, All-right}
 use Rattle.model.specs.Safety.Fetch.{But, hold_read, held_known}
 use Rattle.model.specs.Safety.Inv.{Inv, weaken}
-use Rattle.model.specs.Safety.Lanes.{Same, Lane, Done, Settled, wait_lane, lose_done, live_below, look_ok, call_ok, default_ok, two_ok, any_ok, insert_ok, serve_ok}
-use Rattle.model.specs.Safety.Passes.{lane_trans, lanes_quiet, lanes_done, missed_done, lanes_stage, missed_stage, Filling}
+use Rattle.model.specs.Safety.Lanes.{Same, Lane, Done, Settled, wait_lane, lose_done, live_below, call_ok, two_ok, any_ok, insert_ok}
+use Rattle.model.specs.Safety.Passes.{lane_trans, lanes_quiet, lanes_done, missed_done, lanes_stage, Filling}
 
 some_below : (xs : List (Option ℕ)) (i : ℕ) {w : ℕ} → get_or xs i none ≡ some w → i < length xs
 some_below [] i e = absurd (none_some e)
@@ -39,74 +39,30 @@ module _ (E : Env) (tok : All TableOk E.tables) (fn : (o : Site) (c f : ℕ) (ar
   abbrev pub BodyOk : Instr → State → State → Type 0
   BodyOk ins s s' = (q : ℕ) × Lane E K k j q s s' × Filled ins s'
 
-  filled : (ins : Instr) (q : ℕ) (s s' : State) → Filling E K k j q s s' → BodyOk ins s s'
+  pub filled : (ins : Instr) (q : ℕ) (s s' : State) → Filling E K k j q s s' → BodyOk ins s s'
   filled ins q s s' h = (q, h.0, λ d e. h.1)
 
   -- without a dst
   plainly : (ins : Instr) (q : ℕ) (s s' : State) → dst_of ins ≡ none → Lane E K k j q s s' → BodyOk ins s s'
   plainly ins q s s' e h = (q, h, λ d e'. absurd (none_some (sym e ∙ e')))
 
-  then_missed : (q : ℕ) (s s' s'' : State) → Lane E K k j 0 s s' → Filling E K k j q s' s'' → Filling E K k j q s s''
+  pub then_missed : (q : ℕ) (s s' s'' : State) → Lane E K k j 0 s s' → Filling E K k j q s' s'' → Filling E K k j q s s''
   then_missed q s s' s'' a b = (lane_trans E K k j 0 q s s' s'' a b.0, b.1)
 
   module _ (s : State) (v : Inv E K k j 0 s) where
     abbrev pub Good : Instr → Type 0
     Good ins = Sound E.tables E.arity K ins → All CleanConst (reads_of ins) → BodyOk ins s (body E k j ins s)
 
-    first_look : (t : ℕ) (args : List QueryEntry) (col : ℕ) → length args ≡ (table_of E t).keys → col < width (table_of E t) → All (IsKnown K) args → All CleanConst args
-        → Lane E K k j 0 s (lanes (λ i. lookup E (here k j i) t args col wait) s)
-    first_look t args col len lt kn cn = lanes_quiet E K k j _ (λ i s' v' g l.
-        look_ok E K k j tok 0 i s' v' g l (Lane E K k j 0 s') t args col wait len lt kn cn (λ s'' d. d.0) (λ s'' v'' m g''. wait_lane E K k j 0 s' s'' v'' m)) s v
-
-    losing : (i : ℕ) (s' : State) (s'' : State) → Inv E K k j 0 s'' → Same s' s'' → T (is_going s''.status) → Done E K k j 0 i s' (lose i s'')
+    pub losing : (i : ℕ) (s' : State) (s'' : State) → Inv E K k j 0 s'' → Same s' s'' → T (is_going s''.status) → Done E K k j 0 i s' (lose i s'')
     losing i s' s'' v'' m g'' = lose_done E K k j 0 s' s'' v'' m i
 
-    ok1 : (t : ℕ) (args : List QueryEntry) (vs : List _) (col dst : ℕ) → Good (LookupOrInsertDefault t args vs col dst)
-    unfolding body sizes_of reads_of held_of columns_of
-    ok1 t args vs col dst c cn =
-        let a = first_look t args col c.fit.0 c.in_row.0 (All-left (IsKnown K) args (entries_of vs) c.known) (All-left CleanConst args (entries_of vs) cn) in
-        let kn : All (IsKnown (But K dst)) (args ++ entries_of vs) = held_known K dst (args ++ entries_of vs) c.known c.free in
-        filled (LookupOrInsertDefault t args vs col dst) _ s _
-        (then_missed _ s _ _ a
-        (missed_stage E K k j _ (λ i s' v' g l.
-        serve_ok E K k j tok i s' v' g l dst t args vs col c.fit.0 c.fit.1.0 c.in_row.0
-        (All-left (IsKnown (But K dst)) args (entries_of vs) kn) (All-right (IsKnown (But K dst)) args (entries_of vs) kn)
-        (All-left CleanConst args (entries_of vs) cn) (All-right CleanConst args (entries_of vs) cn) c.in_row.1) _ a.inv))
-
-    ok2 : (t : ℕ) (args : List QueryEntry) (col dst : ℕ) (e : QueryEntry) → Good (LookupWithDefault t args col dst e)
-    unfolding body sizes_of reads_of held_of columns_of
-    ok2 t args col dst e c cn =
-        filled (LookupWithDefault t args col dst e) 0 s _
-        (lanes_done E K k j _ (λ i s' v' g l.
-        look_ok E K k j tok 0 i s' v' g l (Done E K k j 0 i s') t args col (take_default (here k j i) e) c.fit.0 c.in_row.0 c.known.1 cn.1
-        (λ s'' d. d) (default_ok E K k j tok 0 i s' v' g l e c.known.0 cn.0)) s v)
-
-    ok3 : (t : ℕ) (args : List QueryEntry) (col dst : ℕ) → Good (Lookup t args col dst)
-    unfolding body sizes_of reads_of held_of columns_of
-    ok3 t args col dst c cn =
-        filled (Lookup t args col dst) 0 s _
-        (lanes_done E K k j _ (λ i s' v' g l.
-        look_ok E K k j tok 0 i s' v' g l (Done E K k j 0 i s') t args col (lose i) c.fit.0 c.in_row.0 c.known cn (λ s'' d. d) (losing i s')) s v)
-
-    ok4 : (t : ℕ) (key : List QueryEntry) (f : ℕ) (args : List QueryEntry) (col dst : ℕ) → Good (LookupWithFallback t key f args col dst)
-    unfolding body sizes_of reads_of held_of columns_of
-    ok4 t key f args col dst c cn =
-        let a = first_look t key col c.fit.0 c.in_row.0 (All-left (IsKnown K) key args c.known) (All-left CleanConst key args cn) in
-        let kn : All (IsKnown (But K dst)) args = held_known K dst args (All-right (IsKnown K) key args c.known) c.free in
-        filled (LookupWithFallback t key f args col dst) 0 s _
-        (then_missed 0 s _ _ a
-        (missed_done E K k j _ (λ i s' v' g l.
-        call_ok E K k j tok 0 i s' v' g l (Done E K k j 0 i s') (But K dst) (hold dst) 0 f args (lose i)
-        (hold_read K dst s'.bindings s'.live (v'.readable g)) c.fit.1.0 kn (All-right CleanConst key args cn)
-        (λ ws w. fn (here k j i) 0 f ws w) (λ s'' d. d) (losing i s')) _ a.inv))
-
-    ok5 : (t : ℕ) (vals : List QueryEntry) → Good (Insert t vals)
+    pub ok5 : (t : ℕ) (vals : List QueryEntry) → Good (Insert t vals)
     unfolding body sizes_of reads_of held_of columns_of dst_of
     ok5 t vals c cn =
         plainly (Insert t vals) _ s _ refl
         (lanes_stage E K k j _ (λ i s' v' g l. insert_ok E K k j i s' v' s' (record { live = refl; out = refl }) g l 0 t (width (table_of E t)) vals tt refl c.fit.0 c.known cn) s v)
 
-    ok6 : (t : ℕ) (x y : QueryEntry) (vals : List QueryEntry) → Good (InsertIfEq t x y vals)
+    pub ok6 : (t : ℕ) (x y : QueryEntry) (vals : List QueryEntry) → Good (InsertIfEq t x y vals)
     unfolding body sizes_of reads_of held_of columns_of dst_of
     ok6 t x y vals c cn =
         plainly (InsertIfEq t x y vals) _ s _ refl
@@ -116,13 +72,13 @@ module _ (E : Env) (tok : All TableOk E.tables) (fn : (o : Site) (c f : ℕ) (ar
         (λ _. insert_ok E K k j i s'' v'' s' m g'' (rw m.live l) 0 t (width (table_of E t)) vals tt refl c.fit.0 c.known.1.1 cn.1.1)
         (wait_lane E K k j (suc i) s' s'' (weaken E K k j i s'' v'') m))) s v)
 
-    ok7 : (t : ℕ) (args : List QueryEntry) → Good (Remove t args)
+    pub ok7 : (t : ℕ) (args : List QueryEntry) → Good (Remove t args)
     unfolding body sizes_of reads_of held_of columns_of dst_of
     ok7 t args c cn =
         plainly (Remove t args) _ s _ refl
         (lanes_stage E K k j _ (λ i s' v' g l. insert_ok E K k j i s' v' s' (record { live = refl; out = refl }) g l 1 t (table_of E t).keys args tt refl c.fit.0 c.known cn) s v)
 
-    ok8 : (f : ℕ) (args : List QueryEntry) (dst : ℕ) → Good (External f args dst)
+    pub ok8 : (f : ℕ) (args : List QueryEntry) (dst : ℕ) → Good (External f args dst)
     unfolding body sizes_of reads_of held_of columns_of
     ok8 f args dst c cn =
         filled (External f args dst) 0 s _
@@ -130,7 +86,7 @@ module _ (E : Env) (tok : All TableOk E.tables) (fn : (o : Site) (c f : ℕ) (ar
         call_ok E K k j tok 0 i s' v' g l (Done E K k j 0 i s') K plain 0 f args (lose i) (v'.readable g) c.fit.0 c.known cn
         (λ ws w. fn (here k j i) 0 f ws w) (λ s'' d. d) (losing i s')) s v)
 
-    ok9 : (f1 : ℕ) (args1 : List QueryEntry) (f2 : ℕ) (args2 : List QueryEntry) (dst : ℕ) → Good (ExternalWithFallback f1 args1 f2 args2 dst)
+    pub ok9 : (f1 : ℕ) (args1 : List QueryEntry) (f2 : ℕ) (args2 : List QueryEntry) (dst : ℕ) → Good (ExternalWithFallback f1 args1 f2 args2 dst)
     unfolding body sizes_of reads_of held_of columns_of
     ok9 f1 args1 f2 args2 dst c cn =
         let a : Lane E K k j 0 s (lanes (λ i. invoke E (here k j i) 0 plain f1 args1 wait) s) = lanes_quiet E K k j _ (λ i s' v' g l.
@@ -151,21 +107,21 @@ module _ (E : Env) (tok : All TableOk E.tables) (fn : (o : Site) (c f : ℕ) (ar
         two_ok E K k j tok 0 i s' v' g l (Lane E K k j 0 s') x y _ kn cn
         (λ p q s'' v'' m g''. when_ind (Lane E K k j 0 s') (b p q) (lose i) s'' (λ _. (lose_done E K k j 0 s' s'' v'' m i).0) (wait_lane E K k j 0 s' s'' v'' m))) s v
 
-    ok10 : (x y : QueryEntry) → Good (AssertEq x y)
+    pub ok10 : (x y : QueryEntry) → Good (AssertEq x y)
     unfolding body sizes_of reads_of held_of columns_of dst_of
     ok10 x y c cn = plainly (AssertEq x y) 0 s _ refl (test_ok x y (λ a b. not (eqb a b)) c.known cn)
 
-    ok11 : (x y : QueryEntry) → Good (AssertNe x y)
+    pub ok11 : (x y : QueryEntry) → Good (AssertNe x y)
     unfolding body sizes_of reads_of held_of columns_of dst_of
     ok11 x y c cn = plainly (AssertNe x y) 0 s _ refl (test_ok x y eqb c.known cn)
 
-    ok12 : (d : ℕ) (ops : List QueryEntry) → Good (AssertAnyNe d ops)
+    pub ok12 : (d : ℕ) (ops : List QueryEntry) → Good (AssertAnyNe d ops)
     unfolding body sizes_of reads_of held_of columns_of dst_of
     ok12 d ops c cn =
         plainly (AssertAnyNe d ops) 0 s _ refl
         (lanes_quiet E K k j _ (λ i s' v' g l. any_ok E K k j tok 0 i s' v' g l d ops c.fit.0 c.known cn) s v)
 
-    ok13 : (c dst : ℕ) → Good (ReadCounter c dst)
+    pub ok13 : (c dst : ℕ) → Good (ReadCounter c dst)
     unfolding body
     ok13 x dst c cn =
         let n : ℕ = length s.live in
@@ -188,18 +144,3 @@ module _ (E : Env) (tok : All TableOk E.tables) (fn : (o : Site) (c f : ℕ) (ar
           },
           λ d e i g t. (w, get_or-replicate n i (some w) none (live_below s.live i t)),
         )
-
-    pub body_ok : (ins : Instr) → Good ins
-    body_ok (LookupOrInsertDefault t args vs col dst) = ok1 t args vs col dst
-    body_ok (LookupWithDefault t args col dst e) = ok2 t args col dst e
-    body_ok (Lookup t args col dst) = ok3 t args col dst
-    body_ok (LookupWithFallback t key f args col dst) = ok4 t key f args col dst
-    body_ok (Insert t vals) = ok5 t vals
-    body_ok (InsertIfEq t l r vals) = ok6 t l r vals
-    body_ok (Remove t args) = ok7 t args
-    body_ok (External f args dst) = ok8 f args dst
-    body_ok (ExternalWithFallback f1 args1 f2 args2 dst) = ok9 f1 args1 f2 args2 dst
-    body_ok (AssertEq l r) = ok10 l r
-    body_ok (AssertNe l r) = ok11 l r
-    body_ok (AssertAnyNe d ops) = ok12 d ops
-    body_ok (ReadCounter c dst) = ok13 c dst

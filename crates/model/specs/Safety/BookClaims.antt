@@ -1,4 +1,4 @@
--- Demand 3 and the exactness of the check, for books.
+-- What demand 3 supposes, and the exactness of the check, for books.
 use Rattle.std.specs.Prelude.{ℕ, ◌<◌, ◌≡◌, Bool, List, length, get_or}
 use Rattle.std.proofs.Math.Option.{none}
 use Rattle.model.specs.Basics.{All}
@@ -9,7 +9,7 @@ use Rattle.model.specs.Book.Read.{bodies_refusal, tables, counters, rules, steps
 use Rattle.model.specs.Check.{check}
 use Rattle.model.specs.Machine.Functions.{arity}
 use Rattle.model.specs.Outcome.{rule_first, rule_refusal, rules_refusal, words_refusal, book_refusal}
-use Rattle.model.specs.Claims.Demand3.{Answers, NeverStale, StepOk, machine, Demand3, OwnSteps}
+use Rattle.model.specs.Claims.Demand3.{Answers, NeverStale, StepOk, machine, OwnSteps}
 use Rattle.model.specs.Claims.CheckExact.{CheckExact}
 use Rattle.model.specs.Laws.Logic.{else_none, seq_none}
 use Rattle.model.specs.Laws.Lists.{first_some_none, all_tab}
@@ -17,7 +17,6 @@ use Rattle.model.specs.Laws.Words.{words_bounded}
 use Rattle.model.specs.Laws.Supposed.{RuleOk, Accepted}
 use Rattle.model.specs.Laws.Read.{tables_ok, counters_ok, rule_at_lem, steps_all_ok}
 use Rattle.model.specs.Safety.CheckExact.{check→conditions, conditions→check}
-use Rattle.model.specs.Safety.Run.{demand_read}
 
 pub check_exact : CheckExact
 unfolding rule_refusal
@@ -54,7 +53,7 @@ module _ (book : List ℕ) (bytes : All Byte book) (unrefused : book_refusal boo
   small : (p : ℕ) → get_or w p 0 < 4294967296
   small = words_bounded book bytes
 
-  accepted : (answer : Answers) → NeverStale answer → (room : ℕ → Bool) → Accepted (machine book answer room) (counters w)
+  pub accepted : (answer : Answers) → NeverStale answer → (room : ℕ → Bool) → Accepted (machine book answer room) (counters w)
   unfolding rules_refusal rules
   accepted answer fine room = record {
     tables = tables_ok w small no_contents no_bodies;
@@ -68,9 +67,6 @@ module _ (book : List ℕ) (bytes : All Byte book) (unrefused : book_refusal boo
 
   own_steps : All (StepOk (tables w) (rules w)) (steps w)
   own_steps = steps_all_ok w small no_contents no_bodies no_steps
-
-pub demand3 : Demand3
-demand3 book bytes unrefused answer fine room list ok n = demand_read (machine book answer room) (counters (words_of book)) list (accepted book bytes unrefused answer fine room) ok n
 
 pub own_steps_lem : OwnSteps
 own_steps_lem book bytes unrefused = own_steps book bytes unrefused

@@ -1,16 +1,16 @@
 -- What a live lane needs is there, and clean.
-use Rattle.std.specs.Prelude.{ℕ, suc, ◌+◌, ◌<◌, ◌≡◌, refl, ◌≢◌, Bool, true, false, not, List, [], ◌∷◌, ◌++◌, T, eqb, ltb, length, get_or, take}
-use Rattle.std.proofs.Common.{add-zero, add-suc, suc-add, arith, ap, ◌∙◌, subst, append_assoc, eqb→eq, ltb→lt, length-append}
+use Rattle.std.specs.Prelude.{ℕ, suc, ◌<◌, ◌≡◌, refl, ◌≢◌, Bool, true, false, not, List, [], ◌∷◌, ◌++◌, T, eqb, ltb, length, get_or, take}
+use Rattle.std.proofs.Common.{arith, ap, ◌∙◌, subst, append_assoc, eqb→eq, ltb→lt, length-append}
 use Rattle.std.proofs.Math.Option.{Option, none, some}
 use Rattle.std.proofs.Math.Dec.{eqb_refl, not_T}
 use Rattle.std.proofs.Math.ListN.{get_elem?}
 use Rattle.model.specs.Basics.{found, only, eq_list, All}
-use Rattle.model.specs.Book.Syntax.{Clean, Counter, no_counter, limit, QueryEntry, Var, Const, WriteVal, Entry, IncCounter, CurrentVal}
+use Rattle.model.specs.Book.Syntax.{Clean, Counter, limit, QueryEntry, Var, Const}
 use Rattle.model.specs.Machine.State.{Bindings}
-use Rattle.model.specs.Machine.Values.{hold, lane_of, value_of, values_of, list_of, find, Built, is_stuck, is_spent, built, push, draw, hand_out, write, build}
-use Rattle.model.specs.Check.{IsKnown, NotHeld, Below, entries_of, currents_of, against}
+use Rattle.model.specs.Machine.Values.{hold, lane_of, value_of, values_of, list_of, find, Built, is_stuck, is_spent, built, push, draw, hand_out}
+use Rattle.model.specs.Check.{IsKnown, NotHeld, against}
 use Rattle.model.specs.Laws.Supposed.{CleanConst, CounterOk}
-use Rattle.model.specs.Laws.Logic.{some_inj, none_some, only_T, only_some, All-append, All-at, All-get_or, All-set, at_length}
+use Rattle.model.specs.Laws.Logic.{some_inj, none_some, only_T, only_some, All-append, All-at, All-set, at_length}
 
 -- each live lane can read the variables K, and what it reads is clean
 abbrev pub Readable : (ℕ → Type 0) → Bindings → List Bool → Type 0
@@ -77,7 +77,7 @@ BuiltOk key n is_stuck = ⊥
 BuiltOk key n is_spent = Unit {0}
 BuiltOk key n (built row cs) = (length row ≡ n) × All Clean row × All CounterOk cs × (rest : List ℕ) × (row ≡ key ++ rest)
 
-push_ok : (key row : List ℕ) (cs : List Counter) (n w : ℕ) (o : Option ℕ) → o ≡ some w → Clean w → BuiltOk key n (built row cs) → BuiltOk key (suc n) (push row cs o)
+pub push_ok : (key row : List ℕ) (cs : List Counter) (n w : ℕ) (o : Option ℕ) → o ≡ some w → Clean w → BuiltOk key n (built row cs) → BuiltOk key (suc n) (push row cs o)
 push_ok key row cs n w o e c h =
     rw e (
       length-append row (w ∷ []) ∙ omega (arith, h.0),
@@ -87,33 +87,13 @@ push_ok key row cs n w o e c h =
       ap (λ x. x ++ (w ∷ [])) h.4 ∙ append_assoc key h.3 (w ∷ []),
     )
 
-draw_ok : (c : Counter) (p : ℕ × Counter) → CounterOk c → draw c ≡ some p → Clean p.0 × CounterOk p.1
+pub draw_ok : (c : Counter) (p : ℕ × Counter) → CounterOk c → draw c ≡ some p → Clean p.0 × CounterOk p.1
 draw_ok c p h e =
     let q = only_some (ltb c limit) (some (c, suc c)) e in
     subst (λ x. Clean x.0 × CounterOk x.1) (some_inj q.1) (omega arith, omega (arith, ltb→lt c limit q.0))
 
-hand_ok : (key row : List ℕ) (cs : List Counter) (n c : ℕ) (o : Option (ℕ × Counter)) → ((p : ℕ × Counter) → o ≡ some p → Clean p.0 × CounterOk p.1) → BuiltOk key n (built row cs) → BuiltOk key (suc n) (hand_out row cs c o)
+pub hand_ok : (key row : List ℕ) (cs : List Counter) (n c : ℕ) (o : Option (ℕ × Counter)) → ((p : ℕ × Counter) → o ≡ some p → Clean p.0 × CounterOk p.1) → BuiltOk key n (built row cs) → BuiltOk key (suc n) (hand_out row cs c o)
 hand_ok key row cs n c none d h = tt
 hand_ok key row cs n c (some p) d h =
     let r : BuiltOk key (suc n) (push row cs (some p.0)) = push_ok key row cs n p.0 (some p.0) refl (d p refl).0 h in
     (r.0, r.1, All-set CounterOk cs c p.1 h.2 (d p refl).1, r.3, r.4)
-
-module _ (K : ℕ → Type 0) (b : Bindings) (l : List Bool) (rd : Readable K b l) (i : ℕ) (lv : T (get_or l i false)) (key : List ℕ) where
-  write_ok : (v : WriteVal) (n : ℕ) (r : Built) → All (IsKnown K) (entries_of (v ∷ [])) → All CleanConst (entries_of (v ∷ [])) → All Below (currents_of n (v ∷ []))
-      → BuiltOk key n r → BuiltOk key (suc n) (write b i v r)
-  write_ok v n is_stuck k c cu h = absurd h
-  write_ok v n is_spent k c cu h = tt
-  write_ok (Entry e) n (built row cs) k c cu h =
-      let r = entry_read K b l rd i lv e k.0 c.0 in
-      push_ok key row cs n r.0 (value_of b i e) r.1 r.2 h
-  write_ok (IncCounter x) n (built row cs) k c cu h = hand_ok key row cs n x (draw (get_or cs x no_counter)) (λ p e. draw_ok (get_or cs x no_counter) p (All-get_or CounterOk cs x no_counter h.2 (omega arith)) e) h
-  write_ok (CurrentVal x) n (built row cs) k c cu h =
-      let r = cell row x h.1 (omega (arith, cu.0, h.0)) in
-      push_ok key row cs n r.0 (get_elem? row x) r.1 r.2 h
-
-  pub build_ok : (vs : List WriteVal) (n : ℕ) (r : Built) → All (IsKnown K) (entries_of vs) → All CleanConst (entries_of vs) → All Below (currents_of n vs)
-      → BuiltOk key n r → BuiltOk key (n + length vs) (build b i vs r)
-  build_ok [] n r k c cu h = rw add-zero h
-  build_ok (Entry e ∷ vs) n r k c cu h = rw (add-suc, ← suc-add) (build_ok vs (suc n) (write b i (Entry e) r) k.1 c.1 cu (write_ok (Entry e) n r (k.0, tt) (c.0, tt) tt h))
-  build_ok (IncCounter x ∷ vs) n r k c cu h = rw (add-suc, ← suc-add) (build_ok vs (suc n) (write b i (IncCounter x) r) k c cu (write_ok (IncCounter x) n r tt tt tt h))
-  build_ok (CurrentVal x ∷ vs) n r k c cu h = rw (add-suc, ← suc-add) (build_ok vs (suc n) (write b i (CurrentVal x) r) k c cu.1 (write_ok (CurrentVal x) n r tt tt (cu.0, tt) h))

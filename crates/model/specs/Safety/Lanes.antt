@@ -5,21 +5,21 @@ use Rattle.std.specs.Prelude.{◌≡◌, ◌≢◌, Bool, true, ◌&&◌, not, l
 use Rattle.std.proofs.Math.Path.{refl, sym, subst}
 use Rattle.std.proofs.Math.Bool.{false}
 use Rattle.std.proofs.Math.Option.{Option, none, some}
-use mathlib.Core.List.{List, [], ◌∷◌, ◌++◌, append-nil}
+use mathlib.Core.List.{List, [], ◌∷◌, ◌++◌}
 use Rattle.std.proofs.Math.Dec.{T, eqb, eqb_refl}
 use Rattle.std.proofs.Math.ListN.{length, get_elem?}
 use Rattle.model.specs.Basics.{first, keep_if, All}
 use Rattle.model.specs.Book.Syntax.{Clean, QueryEntry, WriteVal, width, table_at}
-use Rattle.model.specs.Machine.State.{State, Record, record_size, reads, took, asks, stuck, spent, full, is_going, Bindings, Env, stop, note, give, lose, with_counters, change, logged, need, log_words}
-use Rattle.model.specs.Machine.Values.{hold, find, is_row, predicted_rows, Built, is_stuck, is_spent, built, build}
-use Rattle.model.specs.Machine.Steps.{here, table_of, stage_new, predict_row, take_column, lookup, invoke, take_default, serve_missed, stage_list, read_pair_lem, any_ne, assert_any_ne}
-use Rattle.model.specs.Check.{IsKnown, Below, entries_of, currents_of}
+use Rattle.model.specs.Machine.State.{State, Record, record_size, reads, took, stuck, spent, full, is_going, Bindings, Env, stop, note, give, lose, with_counters, change, logged, need, log_words}
+use Rattle.model.specs.Machine.Values.{find, is_row, predicted_rows, Built, is_stuck, is_spent, built, build}
+use Rattle.model.specs.Machine.Steps.{here, table_of, stage_new, predict_row, take_column, lookup, invoke, take_default, stage_list, read_pair_lem, any_ne, assert_any_ne}
+use Rattle.model.specs.Check.{IsKnown}
 use Rattle.model.specs.Claims.Demand3.{Within}
 use Rattle.model.specs.Laws.Supposed.{TableOk, CleanConst}
 use Rattle.model.specs.Laws.Logic.{and_T, some_inj, none_some, found_ind, when_ind, only_T, All-get_or, All-zip}
 use Rattle.model.specs.Safety.Rows.{rows_of, steady_other, new_row, steady_row}
-use Rattle.model.specs.Safety.Fetch.{Readable, entry_read, entries_read, list_read, But, hold_read, find_All, cell, BuiltOk, build_ok}
-use Rattle.model.specs.Safety.Inv.{Inv, stop_inv, reads_inv, took_inv, asks_inv, counters_inv, give_inv, lose_inv, logged_inv, weaken, set_within, RowSized}
+use Rattle.model.specs.Safety.Fetch.{Readable, entry_read, entries_read, list_read, find_All, cell, BuiltOk}
+use Rattle.model.specs.Safety.Inv.{Inv, stop_inv, reads_inv, took_inv, counters_inv, give_inv, lose_inv, logged_inv, weaken, set_within, RowSized}
 use Rattle.model.specs.Laws.Turns.{room_ind}
 
 -- ## Small facts
@@ -258,26 +258,3 @@ module _ (E : Env) (K : ℕ → Type 0) (k j : ℕ) where
             (subst (All (λ ws. All Clean ws × (length ws ≡ width (table_of E t)))) e
             (rows_All (λ ws. All Clean ws × (length ws ≡ width (table_of E t))) (table_of E t).keys t key s.log
             (All-zip (its t key) s.log v.logs.clean v.logs.sized))).0
-
-  -- a missed lane of LookupOrInsertDefault
-  module _ (tok : All TableOk E.tables) (i : ℕ) (s : State) (v : Inv E K k j i s) (g : T (is_going s.status)) (lv : T (get_or s.live i false)) where
-    pub serve_ok : (dst t : ℕ) (args : List QueryEntry) (vs : List WriteVal) (col : ℕ)
-        → length args ≡ (table_of E t).keys → length args + length vs ≡ width (table_of E t) → col < width (table_of E t)
-        → All (IsKnown (But K dst)) args → All (IsKnown (But K dst)) (entries_of vs) → All CleanConst args → All CleanConst (entries_of vs) → All Below (currents_of (table_of E t).keys vs)
-        → Done (suc i) i s (serve_missed E (here k j i) dst t args vs col s)
-    unfolding serve_missed
-    serve_ok dst t args vs col len len' lt ka kv ca cv cu =
-        let b : Bindings = hold dst s.bindings in
-        let rd : Readable (But K dst) b s.live = hold_read K dst s.bindings s.live (v.readable g) in
-        let p = list_read (But K dst) b s.live rd i lv (table_of E t).keys args len ka ca in
-        let key : List ℕ = p.0 in
-        let s₁ : State = note (reads (here k j i) key) s in
-        let v₁ : Inv E K k j i s₁ = reads_inv E K k j i s v (here k j i) key p.2 in
-        let ok₀ : BuiltOk key (length key + length vs) (build b i vs (built key s.counters))
-        = build_ok (But K dst) b s.live rd i lv key vs (length key) (built key s.counters) kv cv (rw p.3 cu) (refl, p.2, v.counted, [], sym (append-nil key)) in
-        let all : length key + length vs ≡ width (table_of E t) = omega (arith, p.3, len, len') in
-        need_some (Done (suc i) i s) _ s _ key p.1
-        (predict_ok i s₁ v₁ (Done (suc i) i s) b t key vs _ (subst (λ n. BuiltOk key n (build b i vs (built key s.counters))) all ok₀) p.3 all
-        (λ new r s' v' m c lr one.
-        take_ok tok (suc i) i s (weaken E K k j i s v) g lv col r (note (asks (here k j i) t key r) s') (asks_inv E K k j (suc i) s' v' (here k j i) t key r c one) (record { live = m.live; out = m.out }) c (omega (arith, lt, lr)))
-        (λ s' v' m n. stop_done (suc i) s s' v' (record { live = m.live; out = m.out }) i n))

@@ -1,0 +1,2 @@
+mod Instructions
+pub mod Runs
