@@ -171,12 +171,17 @@ fn read_full<R: Read>(input: &mut R, buffer: &mut [u8]) -> usize
     at
 }
 
-fn main(rt: HostRuntime) -> io::Result<()> {
-    let mut buffer = [0u8; 524288];
-    let got = read_full(&mut rt.reader(), &mut buffer);
+// Reads the sample into the buffer, and prints how many of its books come out as it says.
+fn run<R: Read>(rt: &impl Print, input: &mut R, buffer: &mut [u8]) -> io::Result<()> {
+    let got = read_full(input, buffer);
     if got < 524288 {
-        print(&rt, &buffer[..got])
+        print(rt, &buffer[..got])
     } else {
         println!(rt; "the sample is too long")
     }
+}
+
+fn main(rt: HostRuntime) -> io::Result<()> {
+    let mut buffer = [0u8; 524288];
+    run(&rt, &mut rt.reader(), &mut buffer)
 }
