@@ -6,7 +6,7 @@ mapfile -t commands < <(sed -nE 's/^    ((cc|rustc) .*examples\/.*)/\1/p' README
 [ ${#commands[@]} = 2 ] || { echo "README.md has ${#commands[@]} commands for the examples, not 2" >&2; exit 2; }
 differ=0
 for command in "${commands[@]}"; do
-    [ "$archive" = "$top/target/staticlib" ] || command=${command//target\/staticlib/$(printf %q "$archive")}
+    [ "$archive" = "$top/crates/wirumbane/out" ] || command=${command//crates\/wirumbane\/out/$(printf %q "$archive")}
     echo "$command"
     if bash -c "$command" > target/example.out && diff examples/k1.out target/example.out; then
         echo "as examples/k1.out"

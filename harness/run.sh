@@ -35,8 +35,8 @@ ready_archive() {
     if [ -n "$archive" ]; then
         archive=$(cd "$archive" && pwd) || exit 2
     else
-        (cd "$top" && rt staticlib wirumbane) || exit 2
-        archive=$top/target/staticlib
+        (cd "$top/crates/wirumbane" && rt lib --cpu x86-64) || exit 2
+        archive=$top/crates/wirumbane/out
     fi
     [ -e "$archive/libwirumbane.a" ] || { echo "no libwirumbane.a in $archive" >&2; exit 2; }
 }

@@ -2,14 +2,14 @@
  * The dispatch action engine for C and C++. examples/k1.c is a small program that uses it, and
  * examples/k1.rs the same for Rust; docs/BOOKS.md says how a book and an answer are written.
  *
- * `rt staticlib wirumbane` proves it and writes target/staticlib/libwirumbane.a, to be linked
- * behind what calls it:
+ * `rt lib --cpu x86-64`, in crates/wirumbane, proves it and writes out/libwirumbane.a there, to be
+ * linked behind what calls it:
  *
- *     cc -I include -o program program.c target/staticlib/libwirumbane.a
+ *     cc -I include -o program program.c crates/wirumbane/out/libwirumbane.a
  *
  * The archive is for x86-64 Linux: System V calling convention, position independent, and no more
- * asked of the processor than every x86-64 has. It needs memcpy and memset from what it is linked
- * with, and nothing else. It allocates nothing and keeps nothing between calls, so that threads may
+ * asked of the processor than every x86-64 has (without --cpu, a level of x86-64-v2). It needs
+ * memcpy and memset from what it is linked with, and nothing else. It allocates nothing and keeps nothing between calls, so that threads may
  * call it at the same time, each with memory of its own.
  */
 #ifndef DISPATCH_H

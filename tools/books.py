@@ -1,5 +1,5 @@
 #!/usr/bin/env python3
-"""Write the books of books/README.md as files, and the arguments and the output of program `replay`.
+"""Write the books of books/README.md as files, there and where program `replay` runs, and its arguments and output.
 
 Run it at the top of the repository after a block was added or changed."""
 import os
@@ -7,6 +7,7 @@ import re
 
 PAGE = "books/README.md"
 REPLAY = "crates/replay/"
+FOLDERS = ("books/", REPLAY + "data/")
 
 
 def words(text):
@@ -25,12 +26,14 @@ def books(page):
 
 
 def main():
-    found = list(books(open(PAGE).read()))
-    for old in os.listdir(REPLAY + "data"):
-        if old != "README.md":
-            os.remove(REPLAY + "data/" + old)
-    for name, data, _ in found:
-        open(REPLAY + "data/" + name, "wb").write(data)
+    page = open(PAGE).read()
+    found = list(books(page))
+    for folder in FOLDERS:
+        for old in os.listdir(folder):
+            os.remove(folder + old)
+        open(folder + "README.md", "w").write(page)
+        for name, data, _ in found:
+            open(folder + name, "wb").write(data)
     open(REPLAY + "args", "w").write("".join(name + "\n" for name, _, _ in found))
     with open(REPLAY + "stdout", "w") as out:
         for name, _, lines in found:

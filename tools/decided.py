@@ -10,14 +10,14 @@ LENT = {"log": 16384, "tables": 16384, "answer": 16384}
 
 HEAD = """-- The books of docs/DECISIONS.md, by computation: what each prints, or the words of its answer.
 use Prim.Native.Nat.{ℕ}
-use mathlib.Core.Path.{_≡_, refl}
-use mathlib.Core.List.{List, [], _∷_}
-use Rattle·model·specs.specs.Basics.{All}
-use Rattle·model·specs.specs.Book.Words.{bytesOf}
-use Rattle·model·specs.specs.Outcome.{Lent, accepted, outcome}
-use Rattle·model·specs.specs.Printed.{Line, run, row, ins, del, changed, table, counter, refused, printed}
-use Rattle·model·specs.specs.Claims.Cases.{dispatchLends}
-use Rattle·model·proofs.proofs.Computed.{computed}
+use mathlib.Core.Path.{◌≡◌, refl}
+use mathlib.Core.List.{List, [], ◌∷◌}
+use Rattle.model.specs.Basics.{All}
+use Rattle.model.specs.Book.Words.{bytes_of}
+use Rattle.model.specs.Outcome.{Lent, accepted, outcome}
+use Rattle.model.specs.Printed.{Line, run, row, ins, del, changed, table, counter, refused, printed}
+use Rattle.model.specs.Claims.Cases.{dispatch_lends}
+use Rattle.model.proofs.Computed.{computed}
 
 data Expected : Type 0 where
   prints : List Line → Expected
@@ -29,8 +29,8 @@ record Point : Type 0 where
   expected : Expected
 
 abbrev Meets : Lent → List ℕ → Expected → Type 0
-Meets l book (prints ls) = printed l (bytesOf book) ≡ ls
-Meets l book (answers ws) = outcome l (bytesOf book) ≡ accepted ws
+Meets l book (prints ls) = printed l (bytes_of book) ≡ ls
+Meets l book (answers ws) = outcome l (bytes_of book) ≡ accepted ws
 """
 
 
@@ -55,7 +55,7 @@ def lent(text):
     for name, size in re.findall(r"(\w+) (\d+)", text):
         sizes[name] = int(size)
     if sizes == LENT:
-        return "dispatchLends"
+        return "dispatch_lends"
     return "record { bindings = 8192; index = 8192; " + "; ".join(f"{k} = {v}" for k, v in sizes.items()) + " }"
 
 
@@ -80,8 +80,8 @@ def main():
         for name, given, book, expected in found:
             out.write(f"\nabbrev {name} : Point\n{name} = record {{ lent = {given}; book = {book}; expected = {expected} }}\n")
         out.write("\nabbrev points : List Point\npoints = " + listed(name for name, *_ in found) + "\n")
-        out.write("\npoints-hold : All (λ p. Meets (p .lent) (p .book) (p .expected)) points\nunfolding computed\n")
-        out.write("points-hold = " + "(refl, " * len(found) + "tt" + ")" * len(found) + "\n")
+        out.write("\npoints_hold : All (λ p. Meets p.lent p.book p.expected) points\nunfolding computed\n")
+        out.write("points_hold = " + "(refl, " * len(found) + "tt" + ")" * len(found) + "\n")
     print(f"{len(found)} books")
 
 

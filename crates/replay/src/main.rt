@@ -1,35 +1,42 @@
 // Runs the books whose files its arguments name, one after the other: for each a line with the name, then what `dispatch` prints for it.
 #![tactic(auto)]
 
-use libc::STDOUT_FILENO;
+use std::env::FillError;
+use std::fs::File;
+use std::io::{Error, ErrorKind};
+use std::rt::{Env, Files};
+use std::str;
 
-fn replay_file(name: &[u8]) {
-    io::write_all(STDOUT_FILENO, name);
-    io::write_all(STDOUT_FILENO, b"\n");
-    let fd = os::open_read(name);
-    if fd < 0 {
-        os::fail(name);
-        return;
+fn replay_file(rt: &(impl Files + Print + Eprint), name: &str) {
+    let _ = rt.println(name);
+    match File::open(rt, name) {
+        Ok(mut file) => session::serve(rt, &mut file, name),
+        Err(error) => session::complain(rt, name, error),
     }
-    session::serve(fd, name);
-    libc::close(fd);
 }
 
-fn replay(i: usize) {
-    let mut name = io::buffer();
-    let n = os::arg(i, &mut name);
-    if os::errno() != 0 {
-        os::fail(b"argument");
-        return;
+// Whether there may be further arguments.
+fn replay(rt: &(impl Env + Files + Print + Eprint), i: usize) -> bool {
+    let mut name = [0u8; 4096];
+    match rt.arg(i, &mut name) {
+        Ok(n) => match str::from_utf8(&name[..n]) {
+            Ok(name) => replay_file(rt, name),
+            Err(_) => session::complain(rt, "argument", Error::from(ErrorKind::InvalidData)),
+        },
+        Err(FillError::TooLong) => {
+            session::complain(rt, "argument", Error::from(ErrorKind::InvalidFilename));
+        }
+        Err(FillError::NotPresent) => {
+            return false;
+        }
     }
-    replay_file(&name[..n]);
+    true
 }
 
-fn main() {
-    let n = os::arg_count();
-    let mut i = 1;
-    while i < n {
-        replay(i);
-        i += 1;
+fn main(rt: HostRuntime) {
+    for i in 1..usize::MAX {
+        if !replay(&rt, i) {
+            break;
+        }
     }
 }

@@ -1,8 +1,8 @@
 -- The lines read from the words of an answer are the model's.
-use Prim.Native.Nat.{ℕ, zero, suc, ◌+◌, ◌-◌, ◌*◌, ◌<◌, ◌≤◌}
+use Prim.Native.Nat.{ℕ, zero, suc, ◌+◌, ◌-◌, ◌<◌, ◌≤◌}
 use Rattle.std.specs.Prelude.{◌≡◌, Bool, true, false, cond, take, drop}
 use Rattle.std.proofs.Math.Path.{refl, sym, ap}
-use Rattle.std.proofs.Common.{◌∙◌, add-zero, zero-add}
+use Rattle.std.proofs.Common.{◌∙◌, add-zero}
 use Rattle.std.proofs.Math.Option.{some}
 use mathlib.Core.List.{List, [], ◌∷◌, ◌++◌, map, reverse, append-nil, append_assoc}
 use Rattle.std.proofs.Math.Nat.{zero-sub}
@@ -12,15 +12,15 @@ use native.Mathlib.Omega.{arith}
 use Rattle.std.proofs.Math.Dec.{eqb}
 use Rattle.std.proofs.Math.ListN.{length, get_or, get_elem?, length-append, length-map}
 use Rattle.std.proofs.Math.Seq.{take-length}
-use Rattle.model.specs.Basics.{iter, when, join, how_many, All}
-use Rattle.model.specs.Book.Syntax.{Counter, next_of, Table, table_at, width}
+use Rattle.model.specs.Basics.{iter, when, how_many, All}
+use Rattle.model.specs.Book.Syntax.{Counter, next_of, Table, table_at}
 use Rattle.model.specs.Book.Contents.{count, kind_of, group_of, first_of, members, table_count}
-use Rattle.model.specs.Book.Decode.{part, read_table}
+use Rattle.model.specs.Book.Decode.{read_table}
 use Rattle.model.specs.Machine.State.{State, Record, record_size, Answer, survivors, predicted}
-use Rattle.model.specs.Laws.Logic.{none_some, some_inj, at_length, at_below, All-at, All-map}
+use Rattle.model.specs.Laws.Logic.{none_some, some_inj, at_length, All-at, All-map}
 use Rattle.model.specs.Laws.Book.{table_is}
-use Rattle.model.specs.Answer.{Body, table_body, counter_body, step_body, log_body, record_words, lay_out, answer, flag}
-use Rattle.model.specs.Printed.{Line, run, row, ins, del, changed, table, counter, step_line, step_lines, record_line as line_of, record_lines as lines_of, table_lines, counter_lines}
+use Rattle.model.specs.Answer.{Body, table_body, counter_body, step_body, log_body, lay_out, answer, flag}
+use Rattle.model.specs.Printed.{Line, run, row, changed, table, counter, step_line, step_lines, record_line as line_of, record_lines as lines_of, table_lines, counter_lines}
 use Rattle.record_log.specs.Log.{log_of, place_of}
 use Rattle.record_log.specs.LogLaws.{kind_at, table_at_lem}
 use Rattle.record_log.specs.Walk.{end_of}

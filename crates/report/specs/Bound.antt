@@ -1,6 +1,6 @@
 -- How long a text is: the lines of an answer have at most 11 bytes for each of its words, and the line of a refusal has 53 at most.
 use Rattle.std.specs.Prelude.{ℕ, zero, suc, ◌+◌, ◌*◌, ◌/◌, ◌%◌, ◌^◌, ◌<◌, ◌≤◌, ◌≡◌, refl, Bool, true, false, cond, List, [], ◌∷◌, ◌++◌, map, reverse, ltb, eqb, get_or, drop, set}
-use Rattle.std.proofs.Common.{sym, ap, ◌∙◌, pow-suc, add-zero, lt-ltb, le-ltb, length-append, length-set}
+use Rattle.std.proofs.Common.{ap, ◌∙◌, pow-suc, add-zero, lt-ltb, le-ltb, length-append, length-set}
 use Rattle.std.proofs.Math.Decide.{dec_lt}
 use native.Mathlib.Omega.{arith}
 use Rattle.std.proofs.Math.ListN.{length}
@@ -9,9 +9,9 @@ use Rattle.model.specs.Basics.{join, how_many, All}
 use Rattle.model.specs.Book.Syntax.{Counter, next_of, Table}
 use Rattle.model.specs.Machine.State.{State, Record, Answer, survivors, predicted}
 use Rattle.model.specs.Answer.{Body, contents_from, lay_out, flag, table_body, counter_body, step_body, log_body, record_words, answer}
-use Rattle.model.specs.Printed.{Line, run, row, ins, del, changed, table, counter, refused, step_line, step_lines, record_line, record_lines, table_lines, counter_lines}
+use Rattle.model.specs.Printed.{Line, run, row, ins, del, changed, table, counter, refused, step_lines, record_line, record_lines, table_lines, counter_lines}
 use Rattle.model.specs.Laws.Logic.{All-left, All-right}
-use Rattle.report.specs.Text.{digits, field, fields, run_name, row_name, ins_name, del_name, changed_name, table_name, counter_name, refused_name, at_name, line_bytes, text, Text, up_to, pushed, appended}
+use Rattle.report.specs.Text.{digits, field, fields, run_name, row_name, ins_name, del_name, changed_name, table_name, counter_name, refused_name, at_name, line_bytes, text, up_to, pushed, appended}
 use Rattle.report.specs.TextLaws.{text_append, text_one}
 use Rattle.report.specs.Lines.{answer_lines}
 use Rattle.report.specs.AnswerLines.{Fits, answer_lines_lem}

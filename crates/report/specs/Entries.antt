@@ -1,7 +1,7 @@
 -- What stands where in the words of bodies that are laid out: each entry's kind, and its body.
-use Prim.Native.Nat.{ℕ, zero, suc, ◌+◌, ◌*◌, ◌<◌}
+use Prim.Native.Nat.{ℕ, zero, suc, ◌+◌, ◌*◌}
 use Rattle.std.specs.Prelude.{◌≡◌, refl, List, [], ◌∷◌, ◌++◌, map, get_or, take}
-use Rattle.std.proofs.Common.{sym, ◌∙◌, append_assoc, add-zero, length-append, get_or-drop}
+use Rattle.std.proofs.Common.{sym, ◌∙◌, add-zero, length-append, get_or-drop}
 use Rattle.std.proofs.Math.Path.{ap}
 use Rattle.std.proofs.Math.Option.{some}
 use native.Mathlib.Omega.{arith}

@@ -1,19 +1,19 @@
 -- The lines of any outcome that the engine may return for a book are those that the book prints, and how many bytes they have at most.
-use Rattle.std.specs.Prelude.{ℕ, zero, suc, ◌*◌, ◌^◌, ◌<◌, ◌≤◌, ◌≡◌, refl, List, [], ◌∷◌, ◌++◌, reverse}
+use Rattle.std.specs.Prelude.{ℕ, zero, suc, ◌*◌, ◌^◌, ◌≤◌, ◌≡◌, refl, List, [], ◌∷◌}
 use Rattle.std.proofs.Common.{sym, ap, ◌∙◌, arith}
 use Rattle.std.proofs.Math.Option.{Option, none, some}
 use Rattle.std.proofs.Math.ListN.{length}
-use Rattle.model.specs.Basics.{found, All}
-use Rattle.model.specs.Book.Syntax.{Table, table_at, width}
+use Rattle.model.specs.Basics.{All}
+use Rattle.model.specs.Book.Syntax.{Table, table_at}
 use Rattle.model.specs.Book.Words.{Refusal, words_of}
 use Rattle.model.specs.Book.Contents.{table_count, first_of}
 use Rattle.model.specs.Book.Decode.{read_table}
 use Rattle.model.specs.Book.Read.{tables}
 use Rattle.model.specs.Machine.State.{Record, record_size}
 use Rattle.model.specs.Commit.{committed as committed_table, commit}
-use Rattle.model.specs.Answer.{Perm, same, keep, swap, both, Arranged, answer, flag}
+use Rattle.model.specs.Answer.{Perm, same, keep, swap, both, Arranged, answer}
 use Rattle.model.specs.Outcome.{Lent, Outcome, refused, accepted, left, committed, refusal, outcome, Permitted}
-use Rattle.model.specs.Printed.{Line, refused as refused_line, table, changed, step_lines, record_lines, table_lines, counter_lines, printed}
+use Rattle.model.specs.Printed.{Line, refused as refused_line, table, table_lines, printed}
 use Rattle.model.specs.Laws.Logic.{All-map}
 use Rattle.model.specs.Laws.Lists.{length_tab}
 use Rattle.record_log.specs.RecordLaws.{Sized}

@@ -1,13 +1,10 @@
-use Rattle.std.specs.Prelude.{ℕ, zero, suc, ◌+◌, ◌-◌, ◌*◌, ◌/◌, ◌%◌, ◌^◌, ◌<◌, ◌≤◌, ◌≡◌, refl, cond, List, [], ◌∷◌, ◌++◌, map, ltb, length, get_or, drop, set}
-use Rattle.std.proofs.Common.{sym, ap, ◌∙◌, append_assoc, append-nil, pow-suc, add-one, arith, lt-ltb, le-ltb, length-append, length-set, drop-cons}
+use Rattle.std.specs.Prelude.{ℕ, zero, suc, ◌+◌, ◌-◌, ◌*◌, ◌/◌, ◌%◌, ◌^◌, ◌<◌, ◌≤◌, ◌≡◌, refl, List, [], ◌∷◌, ◌++◌, length, get_or, drop}
+use Rattle.std.proofs.Common.{sym, ap, ◌∙◌, append_assoc, append-nil, pow-suc, add-one, arith, lt-ltb, le-ltb, drop-cons}
 use Rattle.std.proofs.Math.Nat.{one-le-pow, pow-le-pow_right}
 use Rattle.std.proofs.Math.Decide.{dec_lt}
-use Rattle.std.proofs.Math.Seq.{drop-length, append_snoc}
-use Rattle.std.proofs.lemmas.List.{set_at}
-use Rattle.io.specs.Digits.{hex_digit_ascii, last_digits as placed, IsDigitCount}
-use Rattle.model.specs.Basics.{join}
+use Rattle.io.specs.Digits.{last_digits as placed, IsDigitCount}
 use Rattle.model.specs.Printed.{Line, refused}
-use Rattle.report.specs.Text.{digits, decimal, field, fields, named, refused_name, at_name, line_bytes, text, Text, up_to, pushed, appended}
+use Rattle.report.specs.Text.{digits, field, fields, named, refused_name, at_name, line_bytes, text, Text, pushed, appended}
 
 -- Laws of text in a buffer, and of numbers in base ten.
 

@@ -1,10 +1,11 @@
 // Runs the sample of the differential runs, read on standard input, and prints how many of its books came out as the sample says. harness/README.md has the format.
 #![tactic(auto)]
 
-ghost use Rattle.std.specs.Prelude.{◌≤◌, length};
+ghost use Rattle.std.specs.Prelude.{◌+◌, ◌≤◌, length};
 
 use conclude::Outcome;
-use libc::{STDIN_FILENO, STDOUT_FILENO};
+use std::io;
+use std::io::Read;
 
 // How many words of memory the sample's word i lends. There is room for 20480, and no book of the sample asks for more.
 fn lent(sample: &[u8], i: usize) -> usize
@@ -139,22 +140,48 @@ fn count(sample: &[u8], n: usize) -> u64
     right
 }
 
-fn print(sample: &[u8])
+fn print(rt: &impl Print, sample: &[u8]) -> io::Result<()>
     requires { length sample.now ≤ 524288 }
 {
     let n = words::size_in(sample, 0);
-    io::print_decimal(STDOUT_FILENO, count(sample, n));
-    io::write_all(STDOUT_FILENO, b" of ");
-    io::print_decimal(STDOUT_FILENO, n as u64);
-    io::write_all(STDOUT_FILENO, b" books as in the sample\n");
+    let right = count(sample, n);
+    println!(rt; "{right} of {n} books as in the sample")
 }
 
-fn main() {
-    let mut buffer = [0u8; 524288];
-    let got = io::read_full(STDIN_FILENO, &mut buffer);
-    if got < 524288 {
-        print(&buffer[..got]);
-    } else {
-        io::write_all(STDOUT_FILENO, b"the sample is too long\n");
+// One read, into the buffer from `at` on: how many bytes it put there, none where it failed.
+fn read_some<R: Read>(input: &mut R, buffer: &mut [u8], at: usize) -> usize
+    requires { at ≤ length buffer.old }
+    ensures { at + result ≤ length buffer.old }
+{
+    input.read(&mut buffer[at..]).unwrap_or(0)
+}
+
+// Reads until the buffer is full, the input ends or a read fails, and answers how many bytes were put there.
+fn read_full<R: Read>(input: &mut R, buffer: &mut [u8]) -> usize
+    ensures { result ≤ length buffer.old }
+{
+    let mut at = 0;
+    while at < buffer.len() {
+        let n = read_some(input, buffer, at);
+        if n == 0 {
+            break;
+        }
+        at += n;
     }
+    at
+}
+
+// Reads the sample into the buffer, and prints how many of its books come out as it says.
+fn run<R: Read>(rt: &impl Print, input: &mut R, buffer: &mut [u8]) -> io::Result<()> {
+    let got = read_full(input, buffer);
+    if got < 524288 {
+        print(rt, &buffer[..got])
+    } else {
+        println!(rt; "the sample is too long")
+    }
+}
+
+fn main(rt: HostRuntime) -> io::Result<()> {
+    let mut buffer = [0u8; 524288];
+    run(&rt, &mut rt.reader(), &mut buffer)
 }

@@ -9,9 +9,9 @@ use Rattle.session.specs.declared.input.Input.TheVariants as input
 abbrev pub Filled : ℕ → ℕ → Got → Type 0
 Filled n at (Upto p) = (at < p) × (p ≤ n)
 Filled n at End = Unit {0}
-Filled n at Failed = Unit {0}
+Filled n at (Failed e) = Unit {0}
 
 -- all bytes that were read stand in it
 abbrev pub Held : ℕ → Input → Type 0
 Held n (input.Bytes k) = k ≤ n
-Held n input.Failed = Unit {0}
+Held n (input.Failed e) = Unit {0}

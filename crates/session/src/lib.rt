@@ -1,4 +1,4 @@
-// A book read from a descriptor, run with the memory that `dispatch` lends, and its lines written to standard output.
+// A book read from an input, run with the memory that `dispatch` lends, and its lines written to standard output.
 #![tactic(auto)]
 
 mod input;
@@ -12,6 +12,7 @@ ghost use Rattle.report.specs.Prints.{outcome_lines};
 
 use conclude::Outcome;
 use input::Input;
+use std::io::{Error, Read};
 
 // The first n bytes, or all where there are fewer.
 fn front(bytes: &[u8], n: usize) -> &[u8]
@@ -71,23 +72,28 @@ fn response<'a>(book: &[u8], out: &'a mut [u8]) -> &'a [u8]
     front(bytes, n)
 }
 
-fn print(bytes: &[u8]) {
-    if !io::write_all(libc::STDOUT_FILENO, bytes) {
-        os::fail(b"standard output");
+// Says on standard error what failed, and why. Where that cannot be written there is nobody left to tell.
+pub fn complain(rt: &impl Eprint, what: &str, error: Error) {
+    let _ = eprintln!(rt; "{what}: {error}");
+}
+
+fn print(rt: &(impl Print + Eprint), bytes: &[u8]) {
+    if let Err(error) = rt.write_all(bytes) {
+        complain(rt, "standard output", error);
     }
 }
 
 // Prints what comes of a book.
-fn answer_book(book: &[u8]) {
+fn answer_book(rt: &(impl Print + Eprint), book: &[u8]) {
     let mut out = [0u8; 180224];
-    print(response(book, &mut out));
+    print(rt, response(book, &mut out));
 }
 
-// Reads a book up to the end of its input and prints what comes of it. Where the input cannot be read it says so on standard error, under the name given, and prints nothing. It has no result and is lent nothing for change, and what was read and written no contract can say, so it has none.
-pub fn serve(fd: i32, name: &[u8]) {
+// Reads a book up to the end of its input and prints what comes of it. Where the input cannot be read it says so on standard error, under the name given, and prints nothing. It has no result and is lent nothing for change but the input, and what was read and written no contract can say, so it has none.
+pub fn serve<R: Read>(rt: &(impl Print + Eprint), input: &mut R, name: &str) {
     let mut buffer = [0u8; 65537];
-    match input::read_all(fd, &mut buffer) {
-        Input::Bytes(n) => answer_book(&buffer[..n]),
-        Input::Failed => os::fail(name),
+    match input::read_all(input, &mut buffer) {
+        Input::Bytes(n) => answer_book(rt, &buffer[..n]),
+        Input::Failed(error) => complain(rt, name, error),
     }
 }
