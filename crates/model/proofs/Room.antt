@@ -13,7 +13,7 @@ use Rattle.model.specs.Basics.{iter, when, found, only, first}
 use Rattle.model.specs.Book.Syntax.{QueryEntry, WriteVal}
 use Rattle.model.specs.Machine.State.{State, Site, Record, Answer, Status, going, stuck, spent, full, is_going, reads, took, asks, Bindings, Env, stop, note, give, lose, with_counters, logged, change, reply, need, if_room, log_words}
 use Rattle.model.specs.Machine.Values.{hold, value_of, values_of, list_of, find, predicted_rows, Built, is_stuck, is_spent, built, build}
-use Rattle.model.specs.Machine.Steps.{is_live, is_none, lanes, missed, any_ne, read_pair_lem, take_column, take_default, assert_any_ne, table_of, stage_new, row_start, predict_row, lookup, invoke, serve_missed, stage_list}
+use Rattle.model.specs.Machine.Steps.{is_live, is_none, lanes, missed, any_ne, read_pair, take_column, take_default, assert_any_ne, table_of, stage_new, row_start, predict_row, lookup, invoke, serve_missed, stage_list}
 use Rattle.model.specs.Laws.Logic.{either}
 use Rattle.model.proofs.Idle.{goes?, Idle, missed_idle}
 
@@ -169,8 +169,8 @@ module _ (S : Setting) where
 
   -- ## Lanes
 
-  pub two_goes : (o : Site) (l r : QueryEntry) (f g : ℕ → ℕ → State → State) → ((a b : ℕ) → Keeps (f a b) (g a b)) → Keeps (read_pair_lem o l r f) (read_pair_lem o l r g)
-  unfolding read_pair_lem
+  pub two_goes : (o : Site) (l r : QueryEntry) (f g : ℕ → ℕ → State → State) → ((a b : ℕ) → Keeps (f a b) (g a b)) → Keeps (read_pair o l r f) (read_pair o l r g)
+  unfolding read_pair
   two_goes o l r f g h s = need_goes 0 (value_of s.bindings o.lane l) s _ _ (λ a _. need_goes 0 (value_of s.bindings o.lane r) s _ _ (λ b _. h a b (note (reads o (a ∷ b ∷ [])) s)))
 
   take_goes : (o : Site) (col : ℕ) (r : List ℕ) → Keeps (take_column o col r) (take_column o col r)

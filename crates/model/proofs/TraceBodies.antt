@@ -13,7 +13,7 @@ use Rattle.model.specs.Basics.{when}
 use Rattle.model.specs.Book.Syntax.{QueryEntry, WriteVal, Instr, LookupOrInsertDefault, LookupWithDefault, Lookup, LookupWithFallback, Insert, InsertIfEq, Remove, External, ExternalWithFallback, AssertEq, AssertNe, AssertAnyNe, ReadCounter, width}
 use Rattle.model.specs.Machine.State.{State, Site, Record, Event, reads, took, is_going, Env, note, give, lose}
 use Rattle.model.specs.Machine.Values.{hold, values_of, list_of, find}
-use Rattle.model.specs.Machine.Steps.{here, is_live, is_none, lanes, missed, wait, plain, table_of, lookup, invoke, take_default, serve_missed, stage_list, read_pair_lem, assert_any_ne, body}
+use Rattle.model.specs.Machine.Steps.{here, is_live, is_none, lanes, missed, wait, plain, table_of, lookup, invoke, take_default, serve_missed, stage_list, read_pair, assert_any_ne, body}
 use Rattle.model.specs.Claims.Trace.{In, Misses}
 use Rattle.model.specs.Laws.Logic.{and_T, some_inj, when_ind, either}
 use Rattle.model.specs.Safety.Lanes.{live_below}
@@ -71,12 +71,12 @@ module _ (E : Env) (k j : ℕ) where
   first_turn (Lookup t args col dst) i = lookup E (here k j i) t args col (lose i)
   first_turn (LookupWithFallback t key f args col dst) i = lookup E (here k j i) t key col wait
   first_turn (Insert t vals) i = stage_list E (here k j i) 0 t (width (table_of E t)) vals
-  first_turn (InsertIfEq t l r vals) i = read_pair_lem (here k j i) l r λ a b. when (eqb a b) (stage_list E (here k j i) 0 t (width (table_of E t)) vals)
+  first_turn (InsertIfEq t l r vals) i = read_pair (here k j i) l r λ a b. when (eqb a b) (stage_list E (here k j i) 0 t (width (table_of E t)) vals)
   first_turn (Remove t args) i = stage_list E (here k j i) 1 t (table_of E t).keys args
   first_turn (External f args dst) i = invoke E (here k j i) 0 plain f args (lose i)
   first_turn (ExternalWithFallback f1 args1 f2 args2 dst) i = invoke E (here k j i) 0 plain f1 args1 wait
-  first_turn (AssertEq l r) i = read_pair_lem (here k j i) l r λ a b. when (not (eqb a b)) (lose i)
-  first_turn (AssertNe l r) i = read_pair_lem (here k j i) l r λ a b. when (eqb a b) (lose i)
+  first_turn (AssertEq l r) i = read_pair (here k j i) l r λ a b. when (not (eqb a b)) (lose i)
+  first_turn (AssertNe l r) i = read_pair (here k j i) l r λ a b. when (eqb a b) (lose i)
   first_turn (AssertAnyNe d ops) i = assert_any_ne (here k j i) d ops
   first_turn (ReadCounter c dst) i = wait
 

@@ -12,7 +12,7 @@ use Rattle.model.specs.Basics.{when}
 use Rattle.model.specs.Book.Syntax.{QueryEntry, WriteVal, Instr, LookupOrInsertDefault, LookupWithDefault, Lookup, LookupWithFallback, Insert, InsertIfEq, Remove, External, ExternalWithFallback, AssertEq, AssertNe, AssertAnyNe, ReadCounter, width}
 use Rattle.model.specs.Machine.State.{State, Site, Event, reads, Status, full, is_going, Bindings, Env, note, lose}
 use Rattle.model.specs.Machine.Values.{hold, list_of}
-use Rattle.model.specs.Machine.Steps.{here, table_of, is_live, lanes, missed, wait, plain, lookup, invoke, take_column, take_default, serve_missed, stage_list, read_pair_lem, any_ne, assert_any_ne}
+use Rattle.model.specs.Machine.Steps.{here, table_of, is_live, lanes, missed, wait, plain, lookup, invoke, take_column, take_default, serve_missed, stage_list, read_pair, any_ne, assert_any_ne}
 use Rattle.model.specs.Check.{entries_of}
 use Rattle.model.specs.Claims.Trace.{In}
 use Rattle.model.specs.Laws.Logic.{and_T, either, when_ind}
@@ -35,7 +35,7 @@ module _ (o : Site) (s : State) (g : Going s) where
   pub default_on : (e : QueryEntry) → Unstuck (take_default o e s) → Going (take_default o e s)
   default_on e u = subst Going (sym (default_went o s e u).2) g
 
-  pair_on : (Z : Status → Type 0) (l r : QueryEntry) (k : ℕ → ℕ → State → State) → ((a b : ℕ) (s : State) → Going s → Unstuck (k a b s) → Z (k a b s).status) → Unstuck (read_pair_lem o l r k s) → Z (read_pair_lem o l r k s).status
+  pair_on : (Z : Status → Type 0) (l r : QueryEntry) (k : ℕ → ℕ → State → State) → ((a b : ℕ) (s : State) → Going s → Unstuck (k a b s) → Z (k a b s).status) → Unstuck (read_pair o l r k s) → Z (read_pair o l r k s).status
   pair_on Z l r k h u = let p = pair_went o s l r k u in subst (λ z. Z z.status) (sym p.4) (h p.0 p.1 _ g (subst Unstuck p.4 u))
 
   any_on : (d : ℕ) (ops : List QueryEntry) → Unstuck (assert_any_ne o d ops s) → Going (assert_any_ne o d ops s)

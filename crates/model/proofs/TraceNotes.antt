@@ -11,7 +11,7 @@ use Rattle.model.specs.Basics.{when}
 use Rattle.model.specs.Book.Syntax.{QueryEntry, Instr, LookupOrInsertDefault, LookupWithDefault, Lookup, LookupWithFallback, Insert, InsertIfEq, Remove, External, ExternalWithFallback, AssertEq, AssertNe, AssertAnyNe, ReadCounter, width}
 use Rattle.model.specs.Machine.State.{State, Site, Record, Event, reads, Bindings, Env, note, lose}
 use Rattle.model.specs.Machine.Values.{value_of, values_of, find}
-use Rattle.model.specs.Machine.Steps.{here, table_of, wait, plain, lookup, invoke, take_default, stage_list, read_pair_lem, any_ne, assert_any_ne}
+use Rattle.model.specs.Machine.Steps.{here, table_of, wait, plain, lookup, invoke, take_default, stage_list, read_pair, any_ne, assert_any_ne}
 use Rattle.model.specs.Claims.Trace.{In, Noted, Misses, read_first}
 use Rattle.model.specs.Laws.Logic.{none_some, some_inj, either, when_ind}
 use Rattle.model.proofs.Grown.{in_none, Unstuck}
@@ -47,7 +47,7 @@ abbrev Keeps : (State → State) → Type 0
 Keeps f = (e : Event) (s : State) → In e s.trace → In e (f s).trace
 
 module _ (o : Site) (s : State) where
-  pair_notes : (l r : QueryEntry) (k : ℕ → ℕ → State → State) → ((a b : ℕ) → Keeps (k a b)) → Unstuck (read_pair_lem o l r k s) → ListNoted o s.bindings (l ∷ r ∷ []) (read_pair_lem o l r k s)
+  pair_notes : (l r : QueryEntry) (k : ℕ → ℕ → State → State) → ((a b : ℕ) → Keeps (k a b)) → Unstuck (read_pair o l r k s) → ListNoted o s.bindings (l ∷ r ∷ []) (read_pair o l r k s)
   pair_notes l r k h g =
       let p = pair_went o s l r k g in
       record { words = p.0 ∷ p.1 ∷ []; read = rw (p.2, p.3) refl; noted = subst (λ z. In (reads o (p.0 ∷ p.1 ∷ [])) z.trace) (sym p.4) (h p.0 p.1 _ (note (reads o (p.0 ∷ p.1 ∷ [])) s) (0, refl)) }

@@ -11,7 +11,7 @@ use Rattle.model.specs.Basics.{only, first}
 use Rattle.model.specs.Book.Syntax.{Counter, QueryEntry, WriteVal}
 use Rattle.model.specs.Machine.State.{State, Site, Record, Event, mask, reads, took, asks, Status, stuck, spent, full, is_going, Bindings, Env, stop, note, give, lose, with_counters, change, logged, log_words}
 use Rattle.model.specs.Machine.Values.{hold, value_of, values_of, list_of, find, predicted_rows, Built, is_stuck, is_spent, built, build}
-use Rattle.model.specs.Machine.Steps.{table_of, stage_new, row_start, predict_row, take_column, lookup, invoke, take_default, serve_missed, stage_list, read_pair_lem, any_ne, assert_any_ne}
+use Rattle.model.specs.Machine.Steps.{table_of, stage_new, row_start, predict_row, take_column, lookup, invoke, take_default, serve_missed, stage_list, read_pair, any_ne, assert_any_ne}
 use Rattle.model.specs.Claims.Demand3.{Within}
 use Rattle.model.specs.Claims.Trace.{In}
 use Rattle.model.specs.Laws.Logic.{found_ind, when_ind}
@@ -134,8 +134,8 @@ module _ (o : Site) (A : ℕ → List ℕ → Type 0) (P : State → Type 0) (c 
   unfolding take_default
   default_closed e s p = need_ind P (value_of s.bindings o.lane e) s _ (c.stops stuck s (λ t. t) p) (λ w _. c.gives w _ (c.notes (w ∷ []) s p))
 
-  pub pair_closed : (l r : QueryEntry) (k : ℕ → ℕ → State → State) → ((a b : ℕ) (s : State) → P s → P (k a b s)) → (s : State) → P s → P (read_pair_lem o l r k s)
-  unfolding read_pair_lem
+  pub pair_closed : (l r : QueryEntry) (k : ℕ → ℕ → State → State) → ((a b : ℕ) (s : State) → P s → P (k a b s)) → (s : State) → P s → P (read_pair o l r k s)
+  unfolding read_pair
   pair_closed l r k h s p =
       need_ind P (value_of s.bindings o.lane l) s _ (c.stops stuck s (λ t. t) p) (λ a _.
       need_ind P (value_of s.bindings o.lane r) s _ (c.stops stuck s (λ t. t) p) (λ b _. h a b _ (c.notes (a ∷ b ∷ []) s p)))

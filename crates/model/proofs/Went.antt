@@ -11,7 +11,7 @@ use Rattle.model.specs.Basics.{only, first, when}
 use Rattle.model.specs.Book.Syntax.{Counter, QueryEntry, WriteVal, width}
 use Rattle.model.specs.Machine.State.{State, Site, Record, reads, took, asks, spent, full, predicted, Bindings, Env, stop, note, give, lose, with_counters, change, reply, logged, log_words}
 use Rattle.model.specs.Machine.Values.{hold, value_of, values_of, list_of, find, predicted_rows, Built, is_stuck, is_spent, built, build}
-use Rattle.model.specs.Machine.Steps.{table_of, stage_new, row_start, predict_row, take_column, lookup, invoke, take_default, serve_missed, stage_list, read_pair_lem, any_ne, assert_any_ne, predict}
+use Rattle.model.specs.Machine.Steps.{table_of, stage_new, row_start, predict_row, take_column, lookup, invoke, take_default, serve_missed, stage_list, read_pair, any_ne, assert_any_ne, predict}
 use Rattle.model.specs.Laws.Logic.{found_ind, only_some, only_yes}
 use Rattle.model.specs.Laws.Turns.{need_ind, room_ind}
 use Rattle.model.proofs.Grown.{Going, Unstuck}
@@ -36,9 +36,9 @@ module _ (o : Site) where
         need_ind (If (λ z. (w : ℕ) × (value_of s.bindings o.lane e ≡ some w) × (z ≡ give o.lane w (note (reads o (w ∷ [])) s)))) (value_of s.bindings o.lane e) s _
         (λ u. absurd (u refl)) (λ w q g. (w, q, refl))
 
-    pub pair_went : (l r : QueryEntry) (k : ℕ → ℕ → State → State) → Unstuck (read_pair_lem o l r k s)
-        → (a b : ℕ) × (value_of s.bindings o.lane l ≡ some a) × (value_of s.bindings o.lane r ≡ some b) × (read_pair_lem o l r k s ≡ k a b (note (reads o (a ∷ b ∷ [])) s))
-    unfolding read_pair_lem
+    pub pair_went : (l r : QueryEntry) (k : ℕ → ℕ → State → State) → Unstuck (read_pair o l r k s)
+        → (a b : ℕ) × (value_of s.bindings o.lane l ≡ some a) × (value_of s.bindings o.lane r ≡ some b) × (read_pair o l r k s ≡ k a b (note (reads o (a ∷ b ∷ [])) s))
+    unfolding read_pair
     pair_went l r k =
         let P : State → Type 0 = If (λ z. (a b : ℕ) × (value_of s.bindings o.lane l ≡ some a) × (value_of s.bindings o.lane r ≡ some b) × (z ≡ k a b (note (reads o (a ∷ b ∷ [])) s))) in
         need_ind P (value_of s.bindings o.lane l) s _ (λ u. absurd (u refl)) (λ a p. need_ind P (value_of s.bindings o.lane r) s _ (λ u. absurd (u refl)) (λ b q g. (a, b, p, q, refl)))

@@ -12,7 +12,7 @@ use Rattle.model.specs.Book.Syntax.{Counter}
 use Rattle.model.specs.Book.Contents.{table_count}
 use Rattle.model.specs.Machine.State.{State, Site, Record, record_size, going, note, reads, change, if_room, log_words}
 use Rattle.model.specs.Machine.Values.{value_of, list_of}
-use Rattle.model.specs.Machine.Steps.{here, is_live, lanes, table_of, read_pair_lem, stage_list}
+use Rattle.model.specs.Machine.Steps.{here, is_live, lanes, table_of, read_pair, stage_list}
 use Rattle.model.specs.Answer.{record_words}
 use Rattle.model.specs.Laws.Logic.{All-append}
 use Rattle.model.specs.Laws.Lists.{length_tab, get_or_tab}
@@ -181,10 +181,10 @@ module _ (w : List ℕ) (L : ℕ) where
       no_who i e = elim (dec_lt i 256) [ yes h ↦ is_who i h ∙ rw e | no h ↦ get_or-eq_default who false {n = i} (omega (arith, length_tab (λ i. get_or (padded s₀.live) i false && equal i) 256)) ]
 
       abbrev turn : ℕ → ℕ → ℕ → State → State
-      turn k j i = read_pair_lem (here k j i) (entry_of a) (entry_of b) λ x y. when (eqb x y) (stage_list (machine w L) (here k j i) kind t n (entries_of w l))
+      turn k j i = read_pair (here k j i) (entry_of a) (entry_of b) λ x y. when (eqb x y) (stage_list (machine w L) (here k j i) kind t n (entries_of w l))
 
       pair_turn : (k j i : ℕ) (s : State) (c : Logged) → i < 256 → s.status ≡ going → c.state.stop ≡ Going → Staged s c → Follows s (turn k j i s) (staged_lane what t (row i) (equal i) c).state.stop (Staged (turn k j i s) (staged_lane what t (row i) (equal i) c))
-      unfolding read_pair_lem holds
+      unfolding read_pair holds
       pair_turn k j i s c h e o m = need_ind P (value_of s.bindings i (entry_of a)) s _ (sticks refl) (λ x p. need_ind P (value_of s.bindings i (entry_of b)) s _ (sticks refl) (λ y q. both x y (is a na x p) (is b nb y q)))
         where
           P : State → Type 0

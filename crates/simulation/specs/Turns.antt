@@ -14,7 +14,7 @@ use Rattle.model.specs.Book.Decode.{entry_at}
 use Rattle.model.specs.Machine.State.{State, Event, reads, took, Bindings, Env, note, give, lose}
 use Rattle.model.specs.Machine.Values.{value_of, values_of, list_of, find}
 use Rattle.model.specs.Machine.Functions.{apply}
-use Rattle.model.specs.Machine.Steps.{here, wait, table_of, take_column, lookup, invoke, take_default, read_pair_lem, any_ne, assert_any_ne}
+use Rattle.model.specs.Machine.Steps.{here, wait, table_of, take_column, lookup, invoke, take_default, read_pair, any_ne, assert_any_ne}
 use Rattle.model.specs.Outcome.{env_of}
 use Rattle.model.specs.Laws.Logic.{only_some, either}
 use Rattle.model.specs.Laws.Lists.{length_tab}
@@ -190,10 +190,10 @@ module _ (w : List ℕ) (room : ℕ → Bool) (k j : ℕ) where
     verdict_of b i = verdict (test (word_of (columns_of b) i (entry_of l)) (word_of (columns_of b) i (entry_of r)))
 
     abbrev pair : ℕ → State → State
-    pair i = read_pair_lem (here k j i) (entry_of l) (entry_of r) (λ x y. when (drops x y) (lose i))
+    pair i = read_pair (here k j i) (entry_of l) (entry_of r) (λ x y. when (drops x y) (lose i))
 
     pair_does : (b : Bindings) (i : ℕ) (s : State) → i < 256 → s.bindings ≡ b → Does (verdict_of b i) i s (pair i s)
-    unfolding read_pair_lem
+    unfolding read_pair
     pair_does b i s h same =
         subst (λ (b : Bindings). Does (verdict_of b i) i s (pair i s)) same
         (need_ind (Does (verdict_of s.bindings i) i s) (value_of s.bindings i (entry_of l)) s _ (inl refl)
@@ -201,11 +201,11 @@ module _ (w : List ℕ) (room : ℕ → Bool) (k j : ℕ) where
         (λ y q. rw (word_is s.bindings i h (entry_of l) x nl p, word_is s.bindings i h (entry_of r) y nr q, agree x y) (judged_does (test x y) i s (x ∷ y ∷ [])))))
 
   module _ (l r : QueryEntry) (nl : Named (entry_of l)) (nr : Named (entry_of r)) where
-    pub eq_does : (b : Bindings) → Judges b (holds w (columns_of b) (Eq l r)) (λ i. read_pair_lem (here k j i) (entry_of l) (entry_of r) (λ x y. when (not (eqb x y)) (lose i)))
+    pub eq_does : (b : Bindings) → Judges b (holds w (columns_of b) (Eq l r)) (λ i. read_pair (here k j i) (entry_of l) (entry_of r) (λ x y. when (not (eqb x y)) (lose i)))
     unfolding holds
     eq_does b = pair_does l r nl nr eqb (λ x y. not (eqb x y)) (λ x y. refl) b
 
-    pub ne_does : (b : Bindings) → Judges b (holds w (columns_of b) (Ne l r)) (λ i. read_pair_lem (here k j i) (entry_of l) (entry_of r) (λ x y. when (eqb x y) (lose i)))
+    pub ne_does : (b : Bindings) → Judges b (holds w (columns_of b) (Ne l r)) (λ i. read_pair (here k j i) (entry_of l) (entry_of r) (λ x y. when (eqb x y) (lose i)))
     unfolding holds
     ne_does b = pair_does l r nl nr (λ x y. not (eqb x y)) eqb (λ x y. not_not (eqb x y)) b
 

@@ -6,7 +6,7 @@ use Rattle.model.specs.Basics.{when}
 use Rattle.model.specs.Book.Syntax.{Counter, QueryEntry, WriteVal, width}
 use Rattle.model.specs.Machine.State.{State, Site, Record, reads, took, stuck, spent, full, Bindings, Env, stop, need, if_room, note, give, lose, with_counters, change, logged, log_words}
 use Rattle.model.specs.Machine.Values.{value_of, values_of, list_of, find, predicted_rows, is_spent, built, build}
-use Rattle.model.specs.Machine.Steps.{table_of, predict_row, take_column, lookup, invoke, take_default, stage_list, read_pair_lem, any_ne, assert_any_ne}
+use Rattle.model.specs.Machine.Steps.{table_of, predict_row, take_column, lookup, invoke, take_default, stage_list, read_pair, any_ne, assert_any_ne}
 
 pub when_T : {A : Type 0} (b : Bool) (f : A → A) (s : A) → b ≡ true → when b f s ≡ f s
 when_T b f s e = rw e
@@ -28,8 +28,8 @@ module _ (o : Site) (s : State) where
   unfolding take_default
   default_is e w rd = rw rd
 
-  pub two_is : (l r : QueryEntry) (k : ℕ → ℕ → State → State) (a b : ℕ) → value_of s.bindings o.lane l ≡ some a → value_of s.bindings o.lane r ≡ some b → read_pair_lem o l r k s ≡ k a b (note (reads o (a ∷ b ∷ [])) s)
-  unfolding read_pair_lem
+  pub two_is : (l r : QueryEntry) (k : ℕ → ℕ → State → State) (a b : ℕ) → value_of s.bindings o.lane l ≡ some a → value_of s.bindings o.lane r ≡ some b → read_pair o l r k s ≡ k a b (note (reads o (a ∷ b ∷ [])) s)
+  unfolding read_pair
   two_is l r k a b p q = rw (p, q)
 
   pub any_is : (d : ℕ) (ops : List QueryEntry) (ws : List ℕ) → leb d (length ops) ≡ true → values_of s.bindings o.lane ops ≡ some ws

@@ -54,8 +54,8 @@ any_ne [] ys = false
 any_ne (x ∷ xs) [] = false
 any_ne (x ∷ xs) (y ∷ ys) = not (eqb x y) || any_ne xs ys
 
-unfoldable pub read_pair_lem : Site → QueryEntry → QueryEntry → (ℕ → ℕ → State → State) → State → State
-read_pair_lem o l r k s =
+unfoldable pub read_pair : Site → QueryEntry → QueryEntry → (ℕ → ℕ → State → State) → State → State
+read_pair o l r k s =
     need (value_of s.bindings o.lane l) s λ a.
     need (value_of s.bindings o.lane r) s λ b. k a b (note (reads o (a ∷ b ∷ [])) s)
 
@@ -151,12 +151,12 @@ module _ (E : Env) where
     body (Lookup t args col dst) s = lanes (λ i. lookup (here k j i) t args col (lose i)) s
     body (LookupWithFallback t key f args col dst) s = missed (λ i. invoke (here k j i) 0 (hold dst) f args (lose i)) (lanes (λ i. lookup (here k j i) t key col wait) s)
     body (Insert t vals) s = lanes (λ i. stage_list (here k j i) 0 t (width (table_of t)) vals) s
-    body (InsertIfEq t l r vals) s = lanes (λ i. read_pair_lem (here k j i) l r λ a b. when (eqb a b) (stage_list (here k j i) 0 t (width (table_of t)) vals)) s
+    body (InsertIfEq t l r vals) s = lanes (λ i. read_pair (here k j i) l r λ a b. when (eqb a b) (stage_list (here k j i) 0 t (width (table_of t)) vals)) s
     body (Remove t args) s = lanes (λ i. stage_list (here k j i) 1 t (table_of t).keys args) s
     body (External f args dst) s = lanes (λ i. invoke (here k j i) 0 plain f args (lose i)) s
     body (ExternalWithFallback f1 args1 f2 args2 dst) s = missed (λ i. invoke (here k j i) 1 (hold dst) f2 args2 (lose i)) (lanes (λ i. invoke (here k j i) 0 plain f1 args1 wait) s)
-    body (AssertEq l r) s = lanes (λ i. read_pair_lem (here k j i) l r λ a b. when (not (eqb a b)) (lose i)) s
-    body (AssertNe l r) s = lanes (λ i. read_pair_lem (here k j i) l r λ a b. when (eqb a b) (lose i)) s
+    body (AssertEq l r) s = lanes (λ i. read_pair (here k j i) l r λ a b. when (not (eqb a b)) (lose i)) s
+    body (AssertNe l r) s = lanes (λ i. read_pair (here k j i) l r λ a b. when (eqb a b) (lose i)) s
     body (AssertAnyNe d ops) s = lanes (λ i. assert_any_ne (here k j i) d ops) s
     body (ReadCounter c dst) s = frame s.bindings s.live (replicate (length s.live) (some (next_of (get_or s.counters c no_counter)))) s
 

@@ -11,7 +11,7 @@ use Rattle.model.specs.Basics.{when, All}
 use Rattle.model.specs.Book.Syntax.{Clean, no_counter, next_of, QueryEntry, Instr, Insert, InsertIfEq, Remove, External, ExternalWithFallback, AssertEq, AssertNe, AssertAnyNe, ReadCounter, dst_of, width}
 use Rattle.model.specs.Machine.State.{State, Site, is_going, Env, lose}
 use Rattle.model.specs.Machine.Values.{hold}
-use Rattle.model.specs.Machine.Steps.{here, table_of, invoke, stage_list, read_pair_lem, lanes, wait, plain, body}
+use Rattle.model.specs.Machine.Steps.{here, table_of, invoke, stage_list, read_pair, lanes, wait, plain, body}
 use Rattle.model.specs.Check.{Sound, sizes_of, reads_of, held_of, columns_of, IsKnown}
 use Rattle.model.specs.Laws.Supposed.{TableOk, CleanConst, CounterOk}
 use Rattle.model.specs.Laws.Logic.{none_some, when_ind, All-get_or, All-left, All-right}
@@ -102,7 +102,7 @@ module _ (E : Env) (tok : All TableOk E.tables) (fn : (o : Site) (c f : ℕ) (ar
 
     -- a test of readPair entries drops a lane or leaves it
     test_ok : (x y : QueryEntry) (b : ℕ → ℕ → Bool) → All (IsKnown K) (x ∷ y ∷ []) → All CleanConst (x ∷ y ∷ [])
-        → Lane E K k j 0 s (lanes (λ i. read_pair_lem (here k j i) x y λ p q. when (b p q) (lose i)) s)
+        → Lane E K k j 0 s (lanes (λ i. read_pair (here k j i) x y λ p q. when (b p q) (lose i)) s)
     test_ok x y b kn cn = lanes_quiet E K k j _ (λ i s' v' g l.
         two_ok E K k j tok 0 i s' v' g l (Lane E K k j 0 s') x y _ kn cn
         (λ p q s'' v'' m g''. when_ind (Lane E K k j 0 s') (b p q) (lose i) s'' (λ _. (lose_done E K k j 0 s' s'' v'' m i).0) (wait_lane E K k j 0 s' s'' v'' m))) s v

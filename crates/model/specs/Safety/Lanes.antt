@@ -12,7 +12,7 @@ use Rattle.model.specs.Basics.{first, keep_if, All}
 use Rattle.model.specs.Book.Syntax.{Clean, QueryEntry, WriteVal, width, table_at}
 use Rattle.model.specs.Machine.State.{State, Record, record_size, reads, took, stuck, spent, full, is_going, Bindings, Env, stop, note, give, lose, with_counters, change, logged, need, log_words}
 use Rattle.model.specs.Machine.Values.{find, is_row, predicted_rows, Built, is_stuck, is_spent, built, build}
-use Rattle.model.specs.Machine.Steps.{here, table_of, stage_new, predict_row, take_column, lookup, invoke, take_default, stage_list, read_pair_lem, any_ne, assert_any_ne}
+use Rattle.model.specs.Machine.Steps.{here, table_of, stage_new, predict_row, take_column, lookup, invoke, take_default, stage_list, read_pair, any_ne, assert_any_ne}
 use Rattle.model.specs.Check.{IsKnown}
 use Rattle.model.specs.Claims.Demand3.{Within}
 use Rattle.model.specs.Laws.Supposed.{TableOk, CleanConst}
@@ -177,8 +177,8 @@ module _ (E : Env) (K : ℕ → Type 0) (k j : ℕ) where
           (give_done q s (note (reads (here k j i) (p.0 ∷ [])) s') (reads_inv E K k j q s' v' (here k j i) (p.0 ∷ []) (p.2, tt)) (record { live = m.live; out = m.out }) i p.0 p.2)
 
       pub two_ok : (P : State → Type 0) (l r : QueryEntry) (kk : ℕ → ℕ → State → State) → All (IsKnown K) (l ∷ r ∷ []) → All CleanConst (l ∷ r ∷ [])
-          → ((a b : ℕ) → Then (λ s'. P (kk a b s'))) → P (read_pair_lem (here k j i) l r kk s)
-      unfolding read_pair_lem
+          → ((a b : ℕ) → Then (λ s'. P (kk a b s'))) → P (read_pair (here k j i) l r kk s)
+      unfolding read_pair
       two_ok P l r kk kn cn h =
           let p = entry_read K s.bindings s.live (v.readable g) i lv l kn.0 cn.0 in
           let p' = entry_read K s.bindings s.live (v.readable g) i lv r kn.1.0 cn.1.0 in
