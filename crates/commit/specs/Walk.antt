@@ -1,7 +1,7 @@
 -- The log is walked record by record: which rows are removed, and which are put into a table.
-use Rattle.std.specs.Prelude.{ℕ, ◌+◌, ◌*◌, Bool, true, false, ◌&&◌, ◌||◌, not, cond, List, [], ◌++◌, eqb, leb, length, get_or}
+use Rattle.std.specs.Prelude.{ℕ, ◌+◌, ◌*◌, Bool, true, false, ◌&&◌, ◌||◌, List, [], ◌++◌, eqb, length, get_or}
 use Rattle.std.proofs.Math.Seq.{paste}
-use Rattle.model.specs.Basics.{iter, when, eq_list}
+use Rattle.model.specs.Basics.{when, eq_list}
 use Rattle.model.specs.Book.Decode.{part}
 use Rattle.tables.specs.declared.TableInfo.{TableInfo}
 use Rattle.tables.specs.declared.Found.{Found}

@@ -1,4 +1,3 @@
-use borrow.Author.Rules.{rules}
 use Rattle.build.proofs.append.Goals as goal
 
 pub returns : goal.returns

@@ -1,9 +1,6 @@
-use Prim.Native.Nat.{◌+◌, ◌*◌, ◌-◌, ◌≤◌}
 use mathlib.Core.Path.{◌≡◌, refl}
 use native.Mathlib.Omega.{arith}
-use Rattle.model.specs.Basics.{iter}
-use Rattle.model.specs.Laws.Iter.{iter_more}
-use Rattle.build.specs.Build.{written_next, built}
+use Rattle.build.specs.Build.{built}
 use Rattle.build.specs.BuildLaws.{built_fits}
 use borrow.Author.Rules.{rules}
 use Rattle.build.proofs.build.Goals as goal

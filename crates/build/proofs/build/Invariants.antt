@@ -1,11 +1,7 @@
 use Prim.Native.Nat.{◌+◌, ◌*◌, ◌-◌, ◌≤◌}
-use mathlib.Core.Path.{◌≡◌, refl}
-use native.Mathlib.Omega.{arith}
+use mathlib.Core.Path.{◌≡◌}
 use Rattle.model.specs.Basics.{iter}
-use Rattle.model.specs.Laws.Iter.{iter_more}
-use Rattle.build.specs.Build.{written_next, built}
-use Rattle.build.specs.BuildLaws.{built_fits}
-use borrow.Author.Rules.{rules}
+use Rattle.build.specs.Build.{written_next}
 use Rattle.build.proofs.build.Given as goal
 
 abbrev pub invariant-loop-k : goal.invariant-loop-k

@@ -3,7 +3,6 @@ use mathlib.Core.List.{List}
 use mathlib.Core.Path.{sym, ap, ◌∙◌}
 use Rattle.counter.specs.Counter.{drawn_of}
 use Rattle.build.specs.Build.{appended, handed}
-use borrow.Author.Rules.{rules}
 use Rattle.build.proofs.inc_counter.Goals as goal
 
 pub returns-in-Next : goal.returns-in-Next

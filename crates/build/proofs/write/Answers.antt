@@ -1,5 +1,4 @@
 use Rattle.build.specs.Build.{written}
-use borrow.Author.Rules.{rules}
 use Rattle.build.proofs.write.Goals as goal
 
 pub returns-in-QueryEntry : goal.returns-in-QueryEntry

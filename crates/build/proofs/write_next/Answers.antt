@@ -1,7 +1,6 @@
 use mathlib.Core.Path.{sym, ap, ◌∙◌}
 use mathlib.Core.Bool.{not}
 use Rattle.model.specs.Laws.Turns.{when_T, when_F}
-use borrow.Author.Rules.{rules}
 use Rattle.build.proofs.write_next.Goals as goal
 
 pub returns-then-b : goal.returns-then-b

@@ -1,10 +1,8 @@
-use Prim.Native.Nat.{◌≤◌, ◌-◌}
 use mathlib.Core.Path.{◌≡◌, refl, sym, ap, ◌∙◌}
 use mathlib.Core.Bool.{false}
 use native.Mathlib.Omega.{arith}
 use lib.Dec.{leb}
 use lib.ListN.{length, replicate}
-use Rattle.model.specs.Basics.{iter}
 use Rattle.model.specs.Laws.Iter.{iter_more}
 use Rattle.commit.specs.Walk.{any_removal, gone_after}
 use Rattle.commit.specs.Commit.{Left, table_committed, committed_rows}

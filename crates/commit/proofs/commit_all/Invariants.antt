@@ -1,16 +1,10 @@
 use Prim.Native.Nat.{◌≤◌, ◌-◌}
-use mathlib.Core.Path.{◌≡◌, refl, sym, ap, ◌∙◌}
+use mathlib.Core.Path.{◌≡◌}
 use mathlib.Core.Bool.{false}
-use native.Mathlib.Omega.{arith}
-use lib.Dec.{leb}
 use lib.ListN.{length, replicate}
 use Rattle.model.specs.Basics.{iter}
-use Rattle.model.specs.Laws.Iter.{iter_more}
-use Rattle.commit.specs.Walk.{any_removal, gone_after}
-use Rattle.commit.specs.Commit.{Left, table_committed, committed_rows}
-use Rattle.commit.specs.KeyLaws.{or_right_false}
-use Rattle.commit.specs.TableLaws.{table_fits}
-use borrow.Author.Rules.{rules}
+use Rattle.commit.specs.Walk.{gone_after}
+use Rattle.commit.specs.Commit.{Left, table_committed}
 use Rattle.commit.proofs.commit_all.Given as goal
 
 abbrev pub invariant-loop-t : goal.invariant-loop-t

@@ -8,7 +8,6 @@ use Rattle.commit.specs.RowLaws.{few_rows}
 use Rattle.commit.specs.Walk.{inserted}
 use Rattle.commit.specs.Commit.{kept, begun, ended, table_committed}
 use Rattle.commit.specs.TableLaws.{old_keeps, table_keeps, ready_sound}
-use borrow.Author.Rules.{rules}
 use Rattle.commit.proofs.commit_table.Goals as goal
 use Rattle.commit.proofs.commit_table.Goals.{After-insert_rows-all, After-keep-old}
 

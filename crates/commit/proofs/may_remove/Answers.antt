@@ -1,5 +1,4 @@
 use borrow.Author.Tests.{le-leb, lt-leb}
-use borrow.Author.Rules.{rules}
 use Rattle.commit.proofs.may_remove.Goals as goal
 
 pub returns-then-tables-le1 : goal.returns-then-tables-le1

@@ -3,7 +3,6 @@ use native.Mathlib.Omega.{arith}
 use Rattle.args.specs.declared.Args.{Args}
 use Rattle.bindings.specs.Columns.{fetched}
 use Rattle.execution.specs.Execution.{staged_lane}
-use borrow.Author.Rules.{rules}
 use Rattle.execution.proofs.stage_lane.Goals as goal
 
 pub stage_insert-requires : goal.stage_insert-requires

@@ -1,13 +1,10 @@
-use Prim.Native.Nat.{◌-◌, ◌≤◌}
-use mathlib.Core.Path.{◌≡◌, refl, ◌∙◌}
+use mathlib.Core.Path.{refl}
 use mathlib.Core.Bool.{false}
 use native.Mathlib.Omega.{arith}
-use lib.ListN.{length, get_or}
-use Rattle.model.specs.Basics.{iter}
-use Rattle.model.specs.Laws.Iter.{iter_more}
+use lib.ListN.{get_or}
 use Rattle.lanes.specs.Lanes.{listed}
 use Rattle.lanes.specs.PassLaws.{live_turns}
-use Rattle.execution.specs.Execution.{Logged, staged_lane, staged_lanes}
+use Rattle.execution.specs.Execution.{staged_lane, staged_lanes}
 use borrow.Author.Rules.{rules}
 use Rattle.execution.proofs.stage_lanes.Goals as goal
 
@@ -22,5 +19,5 @@ returns c =
     let m = a.mask.live in
     record {
       is = live_turns m (search rules) (λ k. staged_lane a.what.change a.what.table.0 (listed a.words.now a.bindings.now k a.what.vals) (get_or m k false)) l.i _ _ l.invariant.3 (omega (arith, c.end-n.ensures.is)) (λ k q. rw q);
-      fits = l.invariant.2
+      fits = l.invariant.2;
     }

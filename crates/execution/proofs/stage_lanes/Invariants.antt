@@ -1,14 +1,10 @@
 use Prim.Native.Nat.{◌-◌, ◌≤◌}
-use mathlib.Core.Path.{◌≡◌, refl, ◌∙◌}
+use mathlib.Core.Path.{◌≡◌}
 use mathlib.Core.Bool.{false}
-use native.Mathlib.Omega.{arith}
 use lib.ListN.{length, get_or}
 use Rattle.model.specs.Basics.{iter}
-use Rattle.model.specs.Laws.Iter.{iter_more}
 use Rattle.lanes.specs.Lanes.{listed}
-use Rattle.lanes.specs.PassLaws.{live_turns}
-use Rattle.execution.specs.Execution.{Logged, staged_lane, staged_lanes}
-use borrow.Author.Rules.{rules}
+use Rattle.execution.specs.Execution.{Logged, staged_lane}
 use Rattle.execution.proofs.stage_lanes.Given as goal
 
 abbrev pub invariant-loop-i : goal.invariant-loop-i

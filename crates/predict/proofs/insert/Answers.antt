@@ -1,6 +1,5 @@
 use native.Mathlib.Omega.{arith}
 use Rattle.predict.specs.Predict.{inserted}
-use borrow.Author.Rules.{rules}
 use Rattle.predict.proofs.insert.Goals as goal
 
 pub returns-then-b : goal.returns-then-b

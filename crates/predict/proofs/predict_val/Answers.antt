@@ -1,6 +1,5 @@
 use mathlib.Core.Path.{ap}
 use Rattle.predict.specs.Predict.{Gotten, noted, answered}
-use borrow.Author.Rules.{rules}
 use Rattle.predict.proofs.predict_val.Goals as goal
 
 pub look_up_among-requires : goal.look_up_among-requires

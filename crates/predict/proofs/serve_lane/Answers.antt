@@ -3,7 +3,6 @@ use native.Mathlib.Omega.{arith}
 use Rattle.args.specs.declared.Args.{Args}
 use Rattle.bindings.specs.Columns.{fetched}
 use Rattle.predict.specs.Predict.{served_lane}
-use borrow.Author.Rules.{rules}
 use Rattle.predict.proofs.serve_lane.Goals as goal
 
 pub get_or_insert_with-got-requires : goal.get_or_insert_with-got-requires

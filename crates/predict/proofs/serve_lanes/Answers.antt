@@ -1,12 +1,10 @@
-use Prim.Native.Nat.{◌-◌, ◌≤◌}
 use mathlib.Core.Path.{◌≡◌, refl, ◌∙◌}
 use mathlib.Core.Bool.{false}
 use native.Mathlib.Omega.{arith}
 use lib.ListN.{length, get_or}
-use Rattle.model.specs.Basics.{iter}
 use Rattle.model.specs.Laws.Iter.{iter_more}
 use Rattle.lanes.specs.PassLaws.{live_turns}
-use Rattle.predict.specs.Predict.{Served, served_lane, served_lanes}
+use Rattle.predict.specs.Predict.{served_lane, served_lanes}
 use borrow.Author.Rules.{rules}
 use Rattle.predict.proofs.serve_lanes.Goals as goal
 use Rattle.predict.proofs.serve_lanes.Goals.{After-mask-1}
@@ -32,8 +30,7 @@ pub loop-i-preserved : goal.loop-i-preserved
 loop-i-preserved c =
     let l = c.loop-i in
     let r = c.serve_lane-s in
-    let a = c.args in
-    (
+    let a = c.args in (
       search rules,
       r.auto.log ∙ l.invariant.1,
       r.auto.index ∙ l.invariant.2,

@@ -1,13 +1,9 @@
 use Prim.Native.Nat.{◌-◌, ◌≤◌}
-use mathlib.Core.Path.{◌≡◌, refl, ◌∙◌}
+use mathlib.Core.Path.{◌≡◌}
 use mathlib.Core.Bool.{false}
-use native.Mathlib.Omega.{arith}
 use lib.ListN.{length, get_or}
 use Rattle.model.specs.Basics.{iter}
-use Rattle.model.specs.Laws.Iter.{iter_more}
-use Rattle.lanes.specs.PassLaws.{live_turns}
-use Rattle.predict.specs.Predict.{Served, served_lane, served_lanes}
-use borrow.Author.Rules.{rules}
+use Rattle.predict.specs.Predict.{Served, served_lane}
 use Rattle.predict.proofs.serve_lanes.Given as goal
 
 abbrev pub invariant-loop-i : goal.invariant-loop-i

@@ -1,5 +1,4 @@
 use native.Mathlib.Omega.{arith}
-use borrow.Author.Rules.{rules}
 use Rattle.predict.proofs.take.Goals as goal
 
 pub offset_bounds-out-i : goal.offset_bounds-out-i

@@ -6,7 +6,6 @@ use Rattle.tables.specs.Tables.{Stands}
 use Rattle.hash_index.specs.Index.{home_in, indexed}
 use Rattle.commit.specs.RowLaws.{few_rows, new_stands}
 use Rattle.commit.specs.IndexedLaws.{of_index}
-use borrow.Author.Rules.{rules}
 use Rattle.commit.proofs.inserts.insert_indexed.Goals as goal
 
 pub build-requires : goal.build-requires

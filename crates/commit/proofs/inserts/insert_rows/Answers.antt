@@ -1,6 +1,5 @@
 use mathlib.Core.Path.{refl}
 use Rattle.commit.specs.Indexed.{index_for}
-use borrow.Author.Rules.{rules}
 use Rattle.commit.proofs.inserts.insert_rows.Goals as goal
 
 pub insert_all-requires : goal.insert_all-requires

@@ -1,11 +1,9 @@
-use Prim.Native.Nat.{ℕ, ◌≤◌, ◌-◌}
-use mathlib.Core.Path.{◌≡◌, ap, ◌∙◌}
-use native.Mathlib.Omega.{arith}
+use Prim.Native.Nat.{◌≤◌, ◌-◌}
+use mathlib.Core.Path.{◌≡◌}
 use lib.ListN.{length}
 use lib.Seq.{sets}
 use Rattle.model.specs.Basics.{tab}
-use Rattle.commit.specs.MergeLaws.{merged_word, merge_turn, merge_all}
-use borrow.Author.Rules.{rules}
+use Rattle.commit.specs.MergeLaws.{merged_word}
 use Rattle.commit.proofs.merge.merge_words.Given as goal
 
 abbrev pub invariant-loop-i : goal.invariant-loop-i

@@ -1,13 +1,12 @@
-use Prim.Native.Nat.{ℕ, ◌-◌}
-use mathlib.Core.Path.{◌≡◌, ap}
+use Prim.Native.Nat.{ℕ}
+use mathlib.Core.Path.{ap}
 use mathlib.Core.Bool.{false, ◌||◌}
 use native.Mathlib.Omega.{arith}
 use lib.Dec.{eqb}
 use lib.ListN.{length}
 use Rattle.record_log.specs.Walk.{end_of}
 use Rattle.commit.specs.Walk.{removal_turn, any_removal}
-use Rattle.record_log.specs.WalkLaws.{Reached, reached_none, reached_more, reached_end, end_after}
-use borrow.Author.Rules.{rules}
+use Rattle.record_log.specs.WalkLaws.{reached_none, reached_more, reached_end, end_after}
 use Rattle.commit.proofs.records.any_removal.Goals as goal
 
 pub loop-end-init : goal.loop-end-init

@@ -6,7 +6,6 @@ use Rattle.commit.specs.Rows.{put_row}
 use borrow.Author.Tests.{eq-eqb, ne_eqb}
 use native.Mathlib.Omega.{arith}
 use Rattle.commit.specs.Walk.{insert_row}
-use borrow.Author.Rules.{rules}
 use Rattle.commit.proofs.records.insert.Goals as goal
 
 pub returns-then-word-t : goal.returns-then-word-t

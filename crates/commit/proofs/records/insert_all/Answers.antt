@@ -1,15 +1,12 @@
-use Prim.Native.Nat.{◌-◌}
-use mathlib.Core.Path.{◌≡◌, refl, sym, ap, ◌∙◌, subst}
+use mathlib.Core.Path.{refl, sym, ap, ◌∙◌, subst}
 use native.Mathlib.Omega.{arith}
 use lib.ListN.{length}
 use Rattle.tables.specs.declared.TableInfo.{TableInfo}
 use Rattle.commit.specs.Rows.{Rows, Stand}
-use Rattle.commit.specs.Indexed.{index_for}
 use Rattle.record_log.specs.Walk.{end_of}
 use Rattle.commit.specs.Walk.{insert_row, inserted}
-use Rattle.record_log.specs.WalkLaws.{Reached, reached_none, reached_more, reached_end, end_after, insertion_end}
+use Rattle.record_log.specs.WalkLaws.{reached_none, reached_more, reached_end, end_after, insertion_end}
 use Rattle.commit.specs.WalkLaws.{insert_keeps}
-use borrow.Author.Rules.{rules}
 use Rattle.commit.proofs.records.insert_all.Goals as goal
 
 pub loop-end-init : goal.loop-end-init

@@ -6,7 +6,6 @@ use native.Mathlib.Omega.{arith}
 use borrow.Author.Tests.{eq-eqb, ne_eqb}
 use lib.ListN.{length, take, drop, length-take}
 use lib.Seq.{paste}
-use borrow.Author.Rules.{rules}
 use Rattle.commit.proofs.removals.gather.Goals as goal
 use Rattle.commit.proofs.removals.gather.Goals.{Else-word-ne1}
 

@@ -1,12 +1,11 @@
-use Prim.Native.Nat.{◌+◌, ◌*◌, ◌-◌, ◌≤◌}
-use mathlib.Core.Path.{◌≡◌, refl, ap, ◌∙◌}
+use Prim.Native.Nat.{◌+◌, ◌*◌}
+use mathlib.Core.Path.{refl, ap, ◌∙◌}
 use native.Mathlib.Omega.{arith}
 use lib.ListN.{length}
 use Rattle.record_log.specs.Walk.{end_of}
 use Rattle.commit.specs.Walk.{Keys, store_turn}
-use Rattle.record_log.specs.WalkLaws.{Reached, reached_none, reached_more, reached_end, end_after, removal_end}
+use Rattle.record_log.specs.WalkLaws.{reached_none, reached_more, reached_end, end_after, removal_end}
 use Rattle.commit.specs.KeyLaws.{stored_laid, store_fits}
-use borrow.Author.Rules.{rules}
 use Rattle.commit.proofs.removals.gather_all.Goals as goal
 
 pub loop-end-init : goal.loop-end-init

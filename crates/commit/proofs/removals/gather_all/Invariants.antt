@@ -1,12 +1,9 @@
 use Prim.Native.Nat.{◌+◌, ◌*◌, ◌-◌, ◌≤◌}
-use mathlib.Core.Path.{◌≡◌, refl, ap, ◌∙◌}
-use native.Mathlib.Omega.{arith}
+use mathlib.Core.Path.{◌≡◌}
 use lib.ListN.{length}
 use Rattle.record_log.specs.Walk.{end_of}
-use Rattle.commit.specs.Walk.{Keys, store_turn}
-use Rattle.record_log.specs.WalkLaws.{Reached, reached_none, reached_more, reached_end, end_after, removal_end}
-use Rattle.commit.specs.KeyLaws.{stored_laid, store_fits}
-use borrow.Author.Rules.{rules}
+use Rattle.commit.specs.Walk.{store_turn}
+use Rattle.record_log.specs.WalkLaws.{Reached}
 use Rattle.commit.proofs.removals.gather_all.Given as goal
 
 abbrev pub invariant-loop-end : goal.invariant-loop-end

@@ -2,7 +2,6 @@ use mathlib.Core.Path.{ap}
 use native.Mathlib.Omega.{arith}
 use Rattle.commit.specs.Walk.{laid_onto}
 use Rattle.commit.specs.KeyLaws.{none_gathered}
-use borrow.Author.Rules.{rules}
 use Rattle.commit.proofs.removals.gather_if.Goals as goal
 
 pub returns : goal.returns

@@ -11,7 +11,6 @@ use Rattle.commit.specs.Walk.{Keys, key_table, removed_keys, gone_after}
 use Rattle.commit.specs.Commit.{kept, spared}
 use Rattle.commit.specs.KeyLaws.{front_keys}
 use Rattle.commit.specs.TableLaws.{spared_kept}
-use borrow.Author.Rules.{rules}
 use Rattle.commit.proofs.removals.keep.Goals as goal
 use Rattle.commit.proofs.removals.keep.Goals.{After-gather_if-n}
 

@@ -1,6 +1,5 @@
 use mathlib.Core.Path.{refl}
 use mathlib.Core.Logic.{inr}
-use borrow.Author.Rules.{rules}
 use Rattle.commit.proofs.removals.keep_indexed.Goals as goal
 
 pub build-requires : goal.build-requires

@@ -2,7 +2,6 @@ use mathlib.Core.Path.{◌≡◌, sym, ◌∙◌}
 use Rattle.tables.specs.Tables.{found_row}
 use Rattle.commit.specs.RowLaws.{key_found}
 use Rattle.commit.specs.Commit.{spare_row}
-use borrow.Author.Rules.{rules}
 use Rattle.commit.proofs.removals.keep_row.Goals as goal
 use Rattle.commit.proofs.removals.keep_row.Goals.{After-look_up}
 

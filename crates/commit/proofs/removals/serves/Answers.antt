@@ -1,5 +1,4 @@
 use borrow.Author.Tests.{lt-leb, le-leb}
-use borrow.Author.Rules.{rules}
 use Rattle.commit.proofs.removals.serves.Goals as goal
 
 pub returns-then-keys-lt16 : goal.returns-then-keys-lt16

@@ -1,6 +1,5 @@
 use borrow.Author.Tests.{lt-leb, le-leb}
 use Rattle.commit.specs.Rows.{appended}
-use borrow.Author.Rules.{rules}
 use Rattle.commit.proofs.rows.append.Goals as goal
 
 pub returns-then-part : goal.returns-then-part

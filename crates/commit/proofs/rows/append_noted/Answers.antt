@@ -11,7 +11,6 @@ use Rattle.commit.specs.Rows.{Rows, new_info, appended}
 use Rattle.commit.specs.Indexed.{index_for}
 use Rattle.commit.specs.RowLaws.{few_rows}
 use Rattle.commit.specs.IndexedLaws.{none_stays, index_of, of_index, uncounted, row_counted, append_indexed}
-use borrow.Author.Rules.{rules}
 use Rattle.commit.proofs.rows.append_noted.Goals as goal
 
 pub append-longer-requires : goal.append-longer-requires

@@ -7,7 +7,6 @@ use Rattle.tables.specs.Tables.{Stands, found_row}
 use Rattle.hash_index.specs.Index.{IndexOf}
 use Rattle.commit.specs.RowLaws.{few_rows, new_stands}
 use Rattle.commit.specs.IndexedLaws.{index_of}
-use borrow.Author.Rules.{rules}
 use Rattle.commit.proofs.rows.find.Goals as goal
 
 pub look_up-requires : goal.look_up-requires

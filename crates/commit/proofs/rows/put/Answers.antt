@@ -9,7 +9,6 @@ use Rattle.commit.specs.Rows.{Rows, new_info, merged_at, put_row}
 use Rattle.commit.specs.Indexed.{index_for}
 use Rattle.commit.specs.RowLaws.{key_found}
 use Rattle.commit.specs.IndexedLaws.{merge_indexed}
-use borrow.Author.Rules.{rules}
 use Rattle.commit.proofs.rows.put.Goals as goal
 use Rattle.commit.proofs.rows.put.Goals.{In-At}
 

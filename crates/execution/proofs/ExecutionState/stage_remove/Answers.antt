@@ -1,6 +1,5 @@
 use mathlib.Core.Path.{ap}
 use Rattle.execution.specs.Execution.{Logged, changing}
-use borrow.Author.Rules.{rules}
 use Rattle.execution.proofs.ExecutionState.stage_remove.Goals as goal
 
 pub returns : goal.returns

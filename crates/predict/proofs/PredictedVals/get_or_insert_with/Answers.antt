@@ -3,7 +3,6 @@ use Rattle.predicted_index.specs.Home.{home_of}
 use Rattle.predicted_index.specs.HomeLaws.{home_below}
 use Rattle.predicted_index.specs.RightLaws.{get_below}
 use Rattle.predict.specs.Predict.{gotten}
-use borrow.Author.Rules.{rules}
 use Rattle.predict.proofs.PredictedVals.get_or_insert_with.Goals as goal
 
 pub insert-requires : goal.insert-requires
