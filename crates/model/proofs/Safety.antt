@@ -18,15 +18,18 @@ use Rattle.model.specs.Machine.Steps.{here, table_of, lookup, take_default, serv
 use Rattle.model.specs.Claims.Demand3.{Within, Given, StepOk, machine, Demand3}
 use Rattle.model.specs.Safety.Fetch.{Readable, entry_read, list_read, But, hold_read, find_All, cell, BuiltOk, held_known, push_ok, draw_ok, hand_ok}
 use Rattle.model.specs.Safety.Inv.{Inv, reads_inv, took_inv, asks_inv, weaken, note_inv}
-use Rattle.model.specs.Safety.Lanes.{Lane, Done, wait_lane, look_ok, call_ok, default_ok, need_some, predict_ok, table_ok, take_ok, stop_done}
+use Rattle.model.specs.Safety.Lanes.{Lane, wait_lane, look_ok, call_ok, default_ok, need_some, predict_ok, table_ok, take_ok, stop_done}
 use Rattle.model.specs.Safety.Passes.{lanes_quiet, lanes_done, missed_done, missed_stage}
 use Rattle.model.specs.Commit.{commit}
-use Rattle.model.specs.Safety.Bodies.{Filled, filled, then_missed, losing, ok5, ok6, ok7, ok8, ok9, ok10, ok11, ok12, ok13, Good}
+use Rattle.model.specs.Safety.Bodies.{Filled, filled, then_missed, losing, ok5, ok6, ok7, ok8, ok9, ok10, ok11, ok12, ok13}
 use Rattle.model.specs.Safety.CommitOk.{commit_ok}
 use Rattle.model.specs.Book.Words.{words_of}
 use Rattle.model.specs.Book.Read.{counters, steps}
-use Rattle.model.specs.Safety.Run.{advance, clear_inv, bound_ok, Between, leave, enter, later, more, grown, over_end, begin_ok, end_ok, given_ok, answered, rule_ok, going≢stuck, any_live_lem}
+use Rattle.model.specs.Safety.Run.{advance, clear_inv, bound_ok, leave, enter, later, more, grown, over_end, begin_ok, end_ok, given_ok, answered, rule_ok, going≢stuck, any_live_lem}
 use Rattle.model.specs.Safety.BookClaims.{accepted}
+use Rattle.model.specs.Safety.Lanes as turns
+use Rattle.model.specs.Safety.Bodies as bodies
+use Rattle.model.specs.Safety.Run as between
 
 -- ## A row is built
 
@@ -53,11 +56,14 @@ module _ (K : ℕ → Type 0) (b : Bindings) (l : List Bool) (rd : Readable K b 
 -- ## A missed lane of LookupOrInsertDefault
 
 module _ (E : Env) (K : ℕ → Type 0) (k j : ℕ) where
+  abbrev Done : ℕ → ℕ → State → State → Type 0
+  Done = turns.Done E K k j
+
   module _ (tok : All TableOk E.tables) (i : ℕ) (s : State) (v : Inv E K k j i s) (g : T (is_going s.status)) (lv : T (get_or s.live i false)) where
     pub serve_ok : (dst t : ℕ) (args : List QueryEntry) (vs : List WriteVal) (col : ℕ)
         → length args ≡ (table_of E t).keys → length args + length vs ≡ width (table_of E t) → col < width (table_of E t)
         → All (IsKnown (But K dst)) args → All (IsKnown (But K dst)) (entries_of vs) → All CleanConst args → All CleanConst (entries_of vs) → All Below (currents_of (table_of E t).keys vs)
-        → Done E K k j (suc i) i s (serve_missed E (here k j i) dst t args vs col s)
+        → Done (suc i) i s (serve_missed E (here k j i) dst t args vs col s)
     unfolding serve_missed
     serve_ok dst t args vs col len len' lt ka kv ca cv cu =
         let b : Bindings = hold dst s.bindings in
@@ -69,8 +75,8 @@ module _ (E : Env) (K : ℕ → Type 0) (k j : ℕ) where
         let ok₀ : BuiltOk key (length key + length vs) (build b i vs (built key s.counters))
         = build_ok (But K dst) b s.live rd i lv key vs (length key) (built key s.counters) kv cv (rw p.3 cu) (refl, p.2, v.counted, [], sym (append-nil key)) in
         let all : length key + length vs ≡ width (table_of E t) = omega (arith, p.3, len, len') in
-        need_some (Done E K k j (suc i) i s) _ s _ key p.1
-        (predict_ok E K k j i s₁ v₁ (Done E K k j (suc i) i s) b t key vs _ (subst (λ n. BuiltOk key n (build b i vs (built key s.counters))) all ok₀) p.3 all
+        need_some (Done (suc i) i s) _ s _ key p.1
+        (predict_ok E K k j i s₁ v₁ (Done (suc i) i s) b t key vs _ (subst (λ n. BuiltOk key n (build b i vs (built key s.counters))) all ok₀) p.3 all
         (λ new r s' v' m c lr one.
         take_ok E K k j tok (suc i) i s (weaken E K k j i s v) g lv col r (note (asks (here k j i) t key r) s') (asks_inv E K k j (suc i) s' v' (here k j i) t key r c one) (record { live = m.live; out = m.out }) c (omega (arith, lt, lr)))
         (λ s' v' m n. stop_done E K k j (suc i) s s' v' (record { live = m.live; out = m.out }) i n))
@@ -79,12 +85,15 @@ module _ (E : Env) (K : ℕ → Type 0) (k j : ℕ) where
 
 module _ (E : Env) (tok : All TableOk E.tables) (fn : (o : Site) (c f : ℕ) (args : List ℕ) (w : ℕ) → All Clean args → E.answer o c f args ≡ some w → Clean w) (K : ℕ → Type 0) (k j : ℕ) where
   module _ (s : State) (v : Inv E K k j 0 s) where
+    abbrev Good : Instr → Type 0
+    Good = bodies.Good E tok fn K k j s v
+
     first_look : (t : ℕ) (args : List QueryEntry) (col : ℕ) → length args ≡ (table_of E t).keys → col < width (table_of E t) → All (IsKnown K) args → All CleanConst args
         → Lane E K k j 0 s (lanes (λ i. lookup E (here k j i) t args col wait) s)
     first_look t args col len lt kn cn = lanes_quiet E K k j _ (λ i s' v' g l.
         look_ok E K k j tok 0 i s' v' g l (Lane E K k j 0 s') t args col wait len lt kn cn (λ s'' d. d.0) (λ s'' v'' m g''. wait_lane E K k j 0 s' s'' v'' m)) s v
 
-    ok1 : (t : ℕ) (args : List QueryEntry) (vs : List _) (col dst : ℕ) → Good E tok fn K k j s v (LookupOrInsertDefault t args vs col dst)
+    ok1 : (t : ℕ) (args : List QueryEntry) (vs : List _) (col dst : ℕ) → Good (LookupOrInsertDefault t args vs col dst)
     unfolding body sizes_of reads_of held_of columns_of
     ok1 t args vs col dst c cn =
         let a = first_look t args col c.fit.0 c.in_row.0 (All-left (IsKnown K) args (entries_of vs) c.known) (All-left CleanConst args (entries_of vs) cn) in
@@ -96,7 +105,7 @@ module _ (E : Env) (tok : All TableOk E.tables) (fn : (o : Site) (c f : ℕ) (ar
         (All-left (IsKnown (But K dst)) args (entries_of vs) kn) (All-right (IsKnown (But K dst)) args (entries_of vs) kn)
         (All-left CleanConst args (entries_of vs) cn) (All-right CleanConst args (entries_of vs) cn) c.in_row.1) _ a.inv))
 
-    ok2 : (t : ℕ) (args : List QueryEntry) (col dst : ℕ) (e : QueryEntry) → Good E tok fn K k j s v (LookupWithDefault t args col dst e)
+    ok2 : (t : ℕ) (args : List QueryEntry) (col dst : ℕ) (e : QueryEntry) → Good (LookupWithDefault t args col dst e)
     unfolding body sizes_of reads_of held_of columns_of
     ok2 t args col dst e c cn =
         filled E tok fn K k j (LookupWithDefault t args col dst e) 0 s _
@@ -104,14 +113,14 @@ module _ (E : Env) (tok : All TableOk E.tables) (fn : (o : Site) (c f : ℕ) (ar
         look_ok E K k j tok 0 i s' v' g l (Done E K k j 0 i s') t args col (take_default (here k j i) e) c.fit.0 c.in_row.0 c.known.1 cn.1
         (λ s'' d. d) (default_ok E K k j tok 0 i s' v' g l e c.known.0 cn.0)) s v)
 
-    ok3 : (t : ℕ) (args : List QueryEntry) (col dst : ℕ) → Good E tok fn K k j s v (Lookup t args col dst)
+    ok3 : (t : ℕ) (args : List QueryEntry) (col dst : ℕ) → Good (Lookup t args col dst)
     unfolding body sizes_of reads_of held_of columns_of
     ok3 t args col dst c cn =
         filled E tok fn K k j (Lookup t args col dst) 0 s _
         (lanes_done E K k j _ (λ i s' v' g l.
         look_ok E K k j tok 0 i s' v' g l (Done E K k j 0 i s') t args col (lose i) c.fit.0 c.in_row.0 c.known cn (λ s'' d. d) (losing E tok fn K k j s v i s')) s v)
 
-    ok4 : (t : ℕ) (key : List QueryEntry) (f : ℕ) (args : List QueryEntry) (col dst : ℕ) → Good E tok fn K k j s v (LookupWithFallback t key f args col dst)
+    ok4 : (t : ℕ) (key : List QueryEntry) (f : ℕ) (args : List QueryEntry) (col dst : ℕ) → Good (LookupWithFallback t key f args col dst)
     unfolding body sizes_of reads_of held_of columns_of
     ok4 t key f args col dst c cn =
         let a = first_look t key col c.fit.0 c.in_row.0 (All-left (IsKnown K) key args c.known) (All-left CleanConst key args cn) in
@@ -123,7 +132,7 @@ module _ (E : Env) (tok : All TableOk E.tables) (fn : (o : Site) (c f : ℕ) (ar
         (hold_read K dst s'.bindings s'.live (v'.readable g)) c.fit.1.0 kn (All-right CleanConst key args cn)
         (λ ws w. fn (here k j i) 0 f ws w) (λ s'' d. d) (losing E tok fn K k j s v i s')) _ a.inv))
 
-    pub body_ok : (ins : Instr) → Good E tok fn K k j s v ins
+    pub body_ok : (ins : Instr) → Good ins
     body_ok (LookupOrInsertDefault t args vs col dst) = ok1 t args vs col dst
     body_ok (LookupWithDefault t args col dst e) = ok2 t args col dst e
     body_ok (Lookup t args col dst) = ok3 t args col dst
@@ -139,6 +148,10 @@ module _ (E : Env) (tok : All TableOk E.tables) (fn : (o : Site) (c f : ℕ) (ar
     body_ok (ReadCounter c dst) = ok13 E tok fn K k j s v c dst
 
 module _ (E : Env) where
+  -- before step k
+  abbrev Between : ℕ → State → Type 0
+  Between = between.Between E
+
   module _ (tok : All TableOk E.tables) (fn : (o : Site) (c f : ℕ) (args : List ℕ) (w : ℕ) → All Clean args → E.answer o c f args ≡ some w → Clean w) where
     -- ## An instruction
 
@@ -208,8 +221,11 @@ module _ (E : Env) where
     -- ## A prediction
 
     module _ (k t : ℕ) (key : List ℕ) where
+      abbrev o : Site
+      o = here k 0 0
+
       predict_step : (vs : List WriteVal) (s : State) → Inv E (λ _. ⊥) k 0 0 s → length key ≡ (table_of E t).keys → length key + length vs ≡ width (table_of E t) → All Clean key → All Given vs
-          → Between E (suc k) (predict E (here k 0 0) t key vs s)
+          → Between (suc k) (predict E o t key vs s)
       unfolding predict
       predict_step vs s v len len' cl gv =
           let g = given_ok E tok fn vs (length key) gv in
@@ -217,17 +233,17 @@ module _ (E : Env) where
           = build_ok (λ _. ⊥) (λ _. none) (true ∷ []) (λ x i kx l. absurd kx) 0 tt key vs (length key) (built key s.counters) g.0 g.1 g.2 (refl, cl, v.counted, [], sym (append-nil key)) in
           let fits : T (eqb (length key) (table_of E t).keys && eqb (length key + length vs) (width (table_of E t)))
           = T_and (eqb (length key) (table_of E t).keys) _ (rw len (eqb_refl (table_of E t).keys)) (rw len' (eqb_refl (width (table_of E t)))) in
-          need_some (Between E (suc k)) _ s _ key (only_T (eqb (length key) (table_of E t).keys && eqb (length key + length vs) (width (table_of E t))) _ fits)
-          (found_ind (Between E (suc k)) (find (table_of E t).keys (table_of E t).rows key) _ _
-          (λ r e. leave E (λ _. ⊥) k 0 0 (note (took (here k 0 0) r) s) (took_inv E (λ _. ⊥) k 0 0 s v (here k 0 0) r (find_All (All Clean) (table_of E t).keys (table_of E t).rows key (table_ok E (λ _. ⊥) k 0 tok t).clean e)))
-          (λ e. predict_ok E (λ _. ⊥) k 0 0 s v (Between E (suc k)) (λ _. none) t key vs (λ new r s'. reply (predicted new r) (note (took (here k 0 0) r) (note (asks (here k 0 0) t key r) (when new change s'))))
+          need_some (Between (suc k)) _ s _ key (only_T (eqb (length key) (table_of E t).keys && eqb (length key + length vs) (width (table_of E t))) _ fits)
+          (found_ind (Between (suc k)) (find (table_of E t).keys (table_of E t).rows key) _ _
+          (λ r e. leave E (λ _. ⊥) k 0 0 (note (took o r) s) (took_inv E (λ _. ⊥) k 0 0 s v o r (find_All (All Clean) (table_of E t).keys (table_of E t).rows key (table_ok E (λ _. ⊥) k 0 tok t).clean e)))
+          (λ e. predict_ok E (λ _. ⊥) k 0 0 s v (Between (suc k)) (λ _. none) t key vs (λ new r s'. reply (predicted new r) (note (took o r) (note (asks o t key r) (when new change s'))))
           (subst (λ n. BuiltOk key n (build (λ _. none) 0 vs (built key s.counters))) len' ok₀) len len'
           (λ new r s' v' m c lr one. answered E tok fn k t key new r s' v' c one)
           (λ s' v' m n. leave E (λ _. ⊥) k 0 1 s' v')))
 
     -- ## Steps
 
-    step_ok : (rok : All (RuleOk E) E.rules) (k : ℕ) (st : Step) (s : State) → StepOk E.tables E.rules st → Between E k s → Between E (suc k) (step E k st s)
+    step_ok : (rok : All (RuleOk E) E.rules) (k : ℕ) (st : Step) (s : State) → StepOk E.tables E.rules st → Between k s → Between (suc k) (step E k st s)
     unfolding step
     step_ok rok k (batch r n columns) s h v =
         let R : Rule = rule_at E.rules r in

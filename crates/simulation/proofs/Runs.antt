@@ -33,7 +33,7 @@ use Rattle.answer.specs.AnswerLaws.{step_words}
 use Rattle.step_bodies.specs.Steps.{placed, batch_words}
 use Rattle.bindings.specs.Columns.{columns_of}
 use Rattle.run.specs.Progress.{Ran, halted, batch_told, body_of, batch_step, prediction_step, ran_step, ran_next, ran_steps}
-use Rattle.simulation.specs.Steps.{last, BatchDone, started, its, count_is, all_fit}
+use Rattle.simulation.specs.Steps.{last, started, its, count_is, all_fit}
 use Rattle.simulation.specs.Runs.{answered_more, is_step_lem, below_64, fit_batch, prediction_turn, its_step, RunIs, Runs, sticking, stopped, going_on}
 use Rattle.model.specs.Book.Read as read
 use Rattle.step_bodies.specs.StepLaws as told
@@ -67,11 +67,14 @@ module _ (w : List ℕ) (h : Readable w) (L : ℕ) (short : L ≤ 16384) where
       abbrev r : Running
       r = ran_batch w at x log index
 
-      pub batch_follows : let s' : State = step (machine w L) k (read_batch w at) s in Follows s s' r.batch.state.stop (BatchDone w h L short at end_at words within fit k s x log index a o is s')
+      abbrev BatchDone : State → Type 0
+      BatchDone = batch.BatchDone w h L short at end_at words within fit k s x log index a o is
+
+      pub batch_follows : let s' : State = step (machine w L) k (read_batch w at) s in Follows s s' r.batch.state.stop (BatchDone s')
       unfolding step read_batch ran_batch begin
       batch_follows =
-          subst (λ (u : Rule). let s' : State = end (instructions (machine w L) k u (length u.instrs) (begin k u n columns s)) in Follows s s' r.batch.state.stop (BatchDone w h L short at end_at words within fit k s x log index a o is s')) (sym (rule_is w (get_or w at 0) words.rule))
-          (subst (λ (u : ℕ). let s' : State = end (instructions (machine w L) k rule u s₀) in Follows s s' r.batch.state.stop (BatchDone w h L short at end_at words within fit k s x log index a o is s')) (sym (count_is w h L short at end_at words within fit k s x log index a o is))
+          subst (λ (u : Rule). let s' : State = end (instructions (machine w L) k u (length u.instrs) (begin k u n columns s)) in Follows s s' r.batch.state.stop (BatchDone s')) (sym (rule_is w (get_or w at 0) words.rule))
+          (subst (λ (u : ℕ). let s' : State = end (instructions (machine w L) k rule u s₀) in Follows s s' r.batch.state.stop (BatchDone s')) (sym (count_is w h L short at end_at words within fit k s x log index a o is))
           (batch.ended w h L short at end_at words within fit k s x log index a o is (instrs_follow w L short s.answers k (rule_of w at) many (all_fit w h L short at end_at words within fit k s x log index a o is) rule (its w h L short at end_at words within fit k s x log index a o is) s₀ r₀ a o (started w h L short at end_at words within fit k s x log index a o is) many (omega arith))))
 
 -- ## The steps
