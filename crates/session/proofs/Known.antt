@@ -1,5 +1,5 @@
 -- Bytes that are known to come, read one part after the other.
-use Rattle.std.specs.Prelude.{ℕ, ◌+◌, ◌-◌, ◌<◌, ◌≤◌, ◌≡◌, List, [], ◌∷◌, ◌++◌, length, take, drop, Option, None, Some, Result, Ok, Err, IfSome, OnOk}
+use Rattle.std.specs.Prelude.{ℕ, ◌+◌, ◌-◌, ◌<◌, ◌≡◌, List, [], ◌∷◌, ◌++◌, length, take, drop, Option, None, Some, Result, Ok, Err, IfSome, OnOk}
 use Rattle.std.proofs.Common.{sym, ap, subst, ◌∙◌, arith, append_assoc, lt-ltb, length-take, take_all}
 use Rattle.std.proofs.lemmas.Bool.{lt-leb}
 use Rattle.std.proofs.Math.Decide.{dec_lt}
@@ -41,6 +41,6 @@ long book h =
 
 pub cut_lem : (book : List ℕ) → printed dispatch_lends (take 65537 book) ≡ printed dispatch_lends book
 cut_lem book = elim (dec_lt 65537 (length book)) [
-    yes h ↦ long (take 65537 book) (omega (arith, length-take 65537 book, h)) ∙ sym (long book (omega (arith, h)))
+  | yes h ↦ long (take 65537 book) (omega (arith, length-take 65537 book, h)) ∙ sym (long book (omega (arith, h)))
   | no h ↦ ap (printed dispatch_lends) (take_all 65537 book (omega (arith, h)))
-  ]
+]

@@ -1,6 +1,6 @@
 -- What the reads of an input say of the buffer.
-use Rattle.std.specs.Prelude.{ℕ, ◌-◌, ◌<◌, ◌≤◌, ◌≡◌, List, length, take, drop, ⊤, [], Option, IfSome}
-use Rattle.std.specs.Io.KnownBytes.{Consumes, Keeps, IsAtEnd}
+use Rattle.std.specs.Prelude.{ℕ, ◌-◌, ◌<◌, ◌≤◌, ◌≡◌, List, length, take, drop, [], Option, IfSome}
+use Rattle.std.specs.Io.KnownBytes.{Consumes, IsAtEnd}
 use Rattle.session.specs.declared.input.Got.{Got}
 use Rattle.session.specs.declared.input.Got.TheVariants.{Upto, End, Failed}
 use Rattle.session.specs.declared.input.Input.{Input}
