@@ -1,6 +1,10 @@
 // A book comes in on standard input, and what comes of it is printed: its lines, or its refusal.
 #![tactic(auto)]
 
+use std::io;
+
 fn main(rt: HostRuntime) {
-    session::serve(&rt, &mut rt.reader(), "standard input");
+    if let Err(failure) = session::serve(&mut rt.reader(), &mut io::writer(&rt)) {
+        session::complain(&rt, "standard input", failure);
+    }
 }

@@ -1,18 +1,29 @@
 // Runs the books whose files its arguments name, one after the other: for each a line with the name, then what `dispatch` prints for it.
 #![tactic(auto)]
 
+use session::Failure;
 use std::env::FillError;
 use std::fs::File;
 use std::io::{Error, ErrorKind};
 use std::rt::{Env, Files};
-use std::str;
+use std::{io, str};
+
+fn replay_book(rt: &(impl Files + Print), name: &str) -> Result<(), Failure> {
+    match File::open(rt, name) {
+        Ok(mut file) => session::serve(&mut file, &mut io::writer(rt)),
+        Err(error) => Err(Failure::Input(error)),
+    }
+}
 
 fn replay_file(rt: &(impl Files + Print + Eprint), name: &str) {
     let _ = rt.println(name);
-    match File::open(rt, name) {
-        Ok(mut file) => session::serve(rt, &mut file, name),
-        Err(error) => session::complain(rt, name, error),
+    if let Err(failure) = replay_book(rt, name) {
+        session::complain(rt, name, failure);
     }
+}
+
+fn complain(rt: &impl Eprint, kind: ErrorKind) {
+    session::complain(rt, "argument", Failure::Input(Error::from(kind)));
 }
 
 // Whether there may be further arguments.
@@ -21,10 +32,10 @@ fn replay(rt: &(impl Env + Files + Print + Eprint), i: usize) -> bool {
     match rt.arg(i, &mut name) {
         Ok(n) => match str::from_utf8(&name[..n]) {
             Ok(name) => replay_file(rt, name),
-            Err(_) => session::complain(rt, "argument", Error::from(ErrorKind::InvalidData)),
+            Err(_) => complain(rt, ErrorKind::InvalidData),
         },
         Err(FillError::TooLong) => {
-            session::complain(rt, "argument", Error::from(ErrorKind::InvalidFilename));
+            complain(rt, ErrorKind::InvalidFilename);
         }
         Err(FillError::NotPresent) => {
             return false;

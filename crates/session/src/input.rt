@@ -1,6 +1,6 @@
 // An input read up to its end. A buffer of 65537 bytes tells a book of 65536 bytes from a longer one; what has no room there is read and dropped.
-ghost use Rattle.std.specs.Prelude.{◌<◌, ◌≤◌, length};
-ghost use Rattle.session.specs.Input.{Filled, Held};
+ghost use Rattle.std.specs.Prelude.{◌≡◌, ◌<◌, ◌≤◌, length, take};
+ghost use Rattle.session.specs.Input.{Filled, Took, Held, Holds};
 
 use std::io;
 use std::io::{Error, Read};
@@ -23,7 +23,9 @@ pub enum Got {
 // One read, into the buffer from `at` on.
 fn read_some<R: Read>(input: &mut R, buffer: &mut [u8], at: usize) -> Got
     requires { at ≤ length buffer.old }
-    ensures { Filled (length buffer.old) at result }
+    ensures filled { Filled (length buffer.old) at result }
+    ensures took { Took (R.remaining input.old) (R.remaining input.new) buffer.new at result }
+    ensures before { take at buffer.new ≡ take at buffer.old }
 {
     match input.read(&mut buffer[at..]) {
         Ok(0) => Got::End,
@@ -54,9 +56,10 @@ fn drop_rest<R: Read>(input: &mut R) -> io::Result<()> {
     Ok(())
 }
 
-// All of an input, as far as the buffer holds it. Which bytes were read no contract can say, only where they end.
+// All of an input, as far as the buffer holds it.
 pub fn read_all<R: Read>(input: &mut R, buffer: &mut [u8]) -> Input
-    ensures { Held (length buffer.old) result }
+    ensures held { Held (length buffer.old) result }
+    ensures bytes { Holds (R.remaining input.old) buffer.new result }
 {
     let mut at = 0;
     while at < buffer.len() {

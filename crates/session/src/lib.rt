@@ -1,9 +1,10 @@
-// A book read from an input, run with the memory that `dispatch` lends, and its lines written to standard output.
+// A book read from an input, run with the memory that `dispatch` lends, and its lines written to an output.
 #![tactic(auto)]
 
 mod input;
 
-ghost use Rattle.std.specs.Prelude.{◌≡◌, ◌++◌, ℕ, ◌<◌, ◌≤◌, length, get_or, take, drop};
+ghost use Rattle.std.specs.Prelude.{◌≡◌, ◌++◌, ℕ, ◌<◌, ◌≤◌, length, get_or, take, drop, OnOk, IfSome};
+ghost use Rattle.std.specs.Io.KnownBytes.{Appends};
 ghost use Rattle.model.specs.Printed.{printed};
 ghost use Rattle.model.specs.Claims.Cases.{dispatch_lends};
 ghost use Rattle.engine.specs.Engine.{outcome_of};
@@ -12,7 +13,7 @@ ghost use Rattle.report.specs.Prints.{outcome_lines};
 
 use conclude::Outcome;
 use input::Input;
-use std::io::{Error, Read};
+use std::io::{Error, Read, Write};
 
 // The first n bytes, or all where there are fewer.
 fn front(bytes: &[u8], n: usize) -> &[u8]
@@ -72,28 +73,47 @@ fn response<'a>(book: &[u8], out: &'a mut [u8]) -> &'a [u8]
     front(bytes, n)
 }
 
-// Says on standard error what failed, and why. Where that cannot be written there is nobody left to tell.
-pub fn complain(rt: &impl Eprint, what: &str, error: Error) {
-    let _ = eprintln!(rt; "{what}: {error}");
+// Why a book was not answered: it could not be read, or its lines could not be written.
+#[derive(Drop)]
+pub enum Failure {
+    Input(Error),
+    Output(Error),
 }
 
-fn print(rt: &(impl Print + Eprint), bytes: &[u8]) {
-    if let Err(error) = rt.write_all(bytes) {
-        complain(rt, "standard output", error);
+fn print<W: Write>(output: &mut W, bytes: &[u8]) -> Result<(), Failure>
+    ensures { OnOk result (Appends (W.contents output.old) (W.contents output.new) bytes.now) }
+{
+    match output.write_all(bytes) {
+        Ok(()) => Ok(()),
+        Err(error) => Err(Failure::Output(error)),
     }
 }
 
 // Prints what comes of a book.
-fn answer_book(rt: &(impl Print + Eprint), book: &[u8]) {
+fn answer_book<W: Write>(output: &mut W, book: &[u8]) -> Result<(), Failure>
+    ensures { OnOk result (Appends (W.contents output.old) (W.contents output.new)
+        (text (printed dispatch_lends book.now))) }
+{
     let mut out = [0u8; 180224];
-    print(rt, response(book, &mut out));
+    print(output, response(book, &mut out))
 }
 
-// Reads a book up to the end of its input and prints what comes of it. Where the input cannot be read it says so on standard error, under the name given, and prints nothing. It has no result and is lent nothing for change but the input, and what was read and written no contract can say, so it has none.
-pub fn serve<R: Read>(rt: &(impl Print + Eprint), input: &mut R, name: &str) {
+// Reads a book up to the end of its input and prints what comes of it, or nothing where the input cannot be read. Of an input whose bytes are known and an output that says what it holds, what is printed is the text of what the model prints for these bytes.
+pub fn serve<R: Read, W: Write>(input: &mut R, output: &mut W) -> Result<(), Failure>
+    ensures { OnOk result (IfSome (R.remaining input.old) (λ book.
+        Appends (W.contents output.old) (W.contents output.new) (text (printed dispatch_lends book)))) }
+{
     let mut buffer = [0u8; 65537];
     match input::read_all(input, &mut buffer) {
-        Input::Bytes(n) => answer_book(rt, &buffer[..n]),
-        Input::Failed(error) => complain(rt, name, error),
+        Input::Bytes(n) => answer_book(output, &buffer[..n]),
+        Input::Failed(error) => Err(Failure::Input(error)),
     }
+}
+
+// Says on standard error what failed, the input under the name given, and why. Where that cannot be written there is nobody left to tell.
+pub fn complain(rt: &impl Eprint, name: &str, failure: Failure) {
+    let _ = match failure {
+        Failure::Input(error) => eprintln!(rt; "{name}: {error}"),
+        Failure::Output(error) => eprintln!(rt; "standard output: {error}"),
+    };
 }
