@@ -7,7 +7,6 @@ use lib.ListN.{length, take, length-set}
 use native.Mathlib.Omega.{arith}
 use mathlib.Core.Path.{◌≡◌, ◌∙◌, sym, refl}
 use Prim.Native.Nat.{◌+◌, ◌*◌, ◌≤◌}
-use borrow.Author.Rules.{rules}
 use Rattle.answer.proofs.fill.Goals as goal
 use Rattle.answer.proofs.fill.Goals.{After-length_of-before, After-write_entries, After-write_tables-p}
 

@@ -1,4 +1,3 @@
-use borrow.Author.Rules.{rules}
 use Rattle.lanes.proofs.agree.Goals as goal
 
 pub returns-then-equal : goal.returns-then-equal

@@ -1,8 +1,7 @@
-use Prim.Native.Nat.{◌-◌, ◌≤◌, min}
+use Prim.Native.Nat.{min}
 use mathlib.Core.Path.{◌≡◌, refl, sym, ◌∙◌}
 use native.Mathlib.Omega.{arith}
-use lib.ListN.{length, take, drop}
-use Rattle.model.specs.Machine.Steps.{any_ne}
+use lib.ListN.{length}
 use Rattle.lanes.specs.LaneLaws.{pair_differs, pair_agrees, no_more_pairs}
 use borrow.Author.Rules.{rules}
 use Rattle.lanes.proofs.any_ne.Goals as goal

@@ -1,7 +1,5 @@
-use Prim.Native.Nat.{◌-◌, ◌≤◌}
 use native.Mathlib.Omega.{arith}
-use Rattle.lanes.specs.PassLaws.{Kept, kept_none, kept_turn, kept_all}
-use Rattle.lanes.specs.Lanes.{agreed}
+use Rattle.lanes.specs.PassLaws.{kept_none, kept_turn, kept_all}
 use borrow.Author.Rules.{rules}
 use Rattle.lanes.proofs.assert_impl.Goals as goal
 

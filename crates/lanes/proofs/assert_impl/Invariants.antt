@@ -1,8 +1,6 @@
 use Prim.Native.Nat.{◌-◌, ◌≤◌}
-use native.Mathlib.Omega.{arith}
-use Rattle.lanes.specs.PassLaws.{Kept, kept_none, kept_turn, kept_all}
+use Rattle.lanes.specs.PassLaws.{Kept}
 use Rattle.lanes.specs.Lanes.{agreed}
-use borrow.Author.Rules.{rules}
 use Rattle.lanes.proofs.assert_impl.Given as goal
 
 abbrev pub invariant-loop-i : goal.invariant-loop-i

@@ -1,6 +1,5 @@
 use mathlib.Core.Path.{sym}
 use Rattle.predicted_index.specs.RecordLaws.{at_here, at_past}
-use borrow.Author.Rules.{rules}
 use Rattle.lanes.proofs.column.Goals as goal
 
 pub returns-then-c-row : goal.returns-then-c-row

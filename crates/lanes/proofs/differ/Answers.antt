@@ -7,7 +7,6 @@ use lib.Seq.{length-take-le}
 use Rattle.model.specs.Machine.Steps.{any_ne}
 use Rattle.lanes.specs.Lanes.{holds}
 use Rattle.lanes.specs.LaneLaws.{listed_words}
-use borrow.Author.Rules.{rules}
 use Rattle.lanes.proofs.differ.Goals as goal
 
 pub slice_bounds-any_ne-end : goal.slice_bounds-any_ne-end

@@ -1,5 +1,4 @@
 use Rattle.lanes.specs.Lanes.{entry_ask}
-use borrow.Author.Rules.{rules}
 use Rattle.lanes.proofs.entry_ask.Goals as goal
 
 pub returns-in-Var : goal.returns-in-Var

@@ -1,5 +1,4 @@
 use Rattle.lanes.specs.Lanes.{asked}
-use borrow.Author.Rules.{rules}
 use Rattle.lanes.proofs.fill.Goals as goal
 
 pub lookup_row_vectorized-requires : goal.lookup_row_vectorized-requires

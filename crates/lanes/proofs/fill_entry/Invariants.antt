@@ -1,11 +1,8 @@
 use Prim.Native.Nat.{◌-◌, ◌≤◌}
-use mathlib.Core.Path.{refl, ◌∙◌}
 use mathlib.Core.Option.{some}
-use native.Mathlib.Omega.{arith}
 use Rattle.bindings.specs.Columns.{word_of}
 use Rattle.instr.specs.Meaning.{entry_of}
-use Rattle.lanes.specs.PassLaws.{Answered, answered_none, answered_still, answered_all}
-use borrow.Author.Rules.{rules}
+use Rattle.lanes.specs.PassLaws.{Answered}
 use Rattle.lanes.proofs.fill_entry.Given as goal
 
 abbrev pub invariant-loop-i : goal.invariant-loop-i

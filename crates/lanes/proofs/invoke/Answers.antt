@@ -4,7 +4,6 @@ use lib.Seq.{length-take-le}
 use Rattle.model.specs.Machine.Functions.{apply}
 use Rattle.lanes.specs.Lanes.{asked}
 use Rattle.lanes.specs.LaneLaws.{listed_words}
-use borrow.Author.Rules.{rules}
 use Rattle.lanes.proofs.invoke.Goals as goal
 
 pub slice_bounds-invoke-end-then-live : goal.slice_bounds-invoke-end-then-live

@@ -1,10 +1,6 @@
-use Prim.Native.Nat.{◌-◌, ◌≤◌}
-use mathlib.Core.Path.{◌≡◌, ◌∙◌}
+use mathlib.Core.Path.{◌∙◌}
 use native.Mathlib.Omega.{arith}
-use lib.ListN.{length}
-use Rattle.lanes.specs.declared.Ask.TheVariants.{External}
-use Rattle.lanes.specs.PassLaws.{Answered, answered_none, answered_turn, answered_all}
-use Rattle.lanes.specs.Lanes.{asked}
+use Rattle.lanes.specs.PassLaws.{answered_none, answered_turn, answered_all}
 use borrow.Author.Rules.{rules}
 use Rattle.lanes.proofs.invoke_batch.Goals as goal
 

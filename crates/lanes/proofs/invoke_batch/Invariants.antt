@@ -1,11 +1,9 @@
 use Prim.Native.Nat.{◌-◌, ◌≤◌}
-use mathlib.Core.Path.{◌≡◌, ◌∙◌}
-use native.Mathlib.Omega.{arith}
+use mathlib.Core.Path.{◌≡◌}
 use lib.ListN.{length}
 use Rattle.lanes.specs.declared.Ask.TheVariants.{External}
-use Rattle.lanes.specs.PassLaws.{Answered, answered_none, answered_turn, answered_all}
+use Rattle.lanes.specs.PassLaws.{Answered}
 use Rattle.lanes.specs.Lanes.{asked}
-use borrow.Author.Rules.{rules}
 use Rattle.lanes.proofs.invoke_batch.Given as goal
 
 abbrev pub invariant-loop-i : goal.invariant-loop-i

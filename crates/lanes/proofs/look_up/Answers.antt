@@ -1,7 +1,6 @@
 use mathlib.Core.Path.{◌∙◌}
 use Rattle.bindings.specs.Columns.{fetched}
 use Rattle.lanes.specs.Lanes.{asked}
-use borrow.Author.Rules.{rules}
 use Rattle.lanes.proofs.look_up.Goals as goal
 
 pub returns-then-live : goal.returns-then-live

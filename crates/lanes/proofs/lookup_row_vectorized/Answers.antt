@@ -1,8 +1,5 @@
-use Prim.Native.Nat.{◌-◌, ◌≤◌}
 use native.Mathlib.Omega.{arith}
-use Rattle.lanes.specs.declared.Ask.TheVariants.{Lookup}
-use Rattle.lanes.specs.PassLaws.{Answered, answered_none, answered_turn, answered_all}
-use Rattle.lanes.specs.Lanes.{asked}
+use Rattle.lanes.specs.PassLaws.{answered_none, answered_turn, answered_all}
 use borrow.Author.Rules.{rules}
 use Rattle.lanes.proofs.lookup_row_vectorized.Goals as goal
 

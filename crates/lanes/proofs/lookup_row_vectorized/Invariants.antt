@@ -1,9 +1,7 @@
 use Prim.Native.Nat.{◌-◌, ◌≤◌}
-use native.Mathlib.Omega.{arith}
 use Rattle.lanes.specs.declared.Ask.TheVariants.{Lookup}
-use Rattle.lanes.specs.PassLaws.{Answered, answered_none, answered_turn, answered_all}
+use Rattle.lanes.specs.PassLaws.{Answered}
 use Rattle.lanes.specs.Lanes.{asked}
-use borrow.Author.Rules.{rules}
 use Rattle.lanes.proofs.lookup_row_vectorized.Given as goal
 
 abbrev pub invariant-loop-i : goal.invariant-loop-i

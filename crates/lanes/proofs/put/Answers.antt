@@ -1,6 +1,5 @@
 use mathlib.Core.Path.{refl, sym}
 use lib.Seq.{set-get_or}
-use borrow.Author.Rules.{rules}
 use Rattle.lanes.proofs.put.Goals as goal
 
 pub returns-in-Word : goal.returns-in-Word

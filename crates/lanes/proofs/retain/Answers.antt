@@ -1,5 +1,4 @@
 use Rattle.lanes.specs.Lanes.{holds}
-use borrow.Author.Rules.{rules}
 use Rattle.lanes.proofs.retain.Goals as goal
 
 pub retain_any_ne-requires : goal.retain_any_ne-requires

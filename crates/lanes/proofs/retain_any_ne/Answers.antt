@@ -1,8 +1,5 @@
-use Prim.Native.Nat.{◌-◌, ◌≤◌}
 use native.Mathlib.Omega.{arith}
-use Rattle.lanes.specs.declared.Test.TheVariants.{AnyNe}
-use Rattle.lanes.specs.PassLaws.{Kept, kept_none, kept_turn, kept_all}
-use Rattle.lanes.specs.Lanes.{holds}
+use Rattle.lanes.specs.PassLaws.{kept_none, kept_turn, kept_all}
 use borrow.Author.Rules.{rules}
 use Rattle.lanes.proofs.retain_any_ne.Goals as goal
 

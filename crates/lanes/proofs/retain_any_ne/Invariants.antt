@@ -1,9 +1,7 @@
 use Prim.Native.Nat.{◌-◌, ◌≤◌}
-use native.Mathlib.Omega.{arith}
 use Rattle.lanes.specs.declared.Test.TheVariants.{AnyNe}
-use Rattle.lanes.specs.PassLaws.{Kept, kept_none, kept_turn, kept_all}
+use Rattle.lanes.specs.PassLaws.{Kept}
 use Rattle.lanes.specs.Lanes.{holds}
-use borrow.Author.Rules.{rules}
 use Rattle.lanes.proofs.retain_any_ne.Given as goal
 
 abbrev pub invariant-loop-i : goal.invariant-loop-i

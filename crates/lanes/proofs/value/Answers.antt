@@ -1,5 +1,4 @@
 use mathlib.Core.Path.{◌∙◌}
-use borrow.Author.Rules.{rules}
 use Rattle.lanes.proofs.value.Goals as goal
 
 pub returns-in-Var : goal.returns-in-Var

@@ -1,11 +1,10 @@
 use native.Mathlib.Numerals.{add-one}
 use mathlib.Core.Path.{◌∙◌, ◌≡◌}
-use Prim.Native.Nat.{ℕ, suc, ◌-◌, ◌≤◌}
-use mathlib.Core.Logic.{⊎_elim}
+use Prim.Native.Nat.{ℕ, suc}
 use mathlib.Core.Bool.{Bool, false}
 use native.Mathlib.Omega.{arith}
 use lib.ListN.{get_or}
-use Rattle.model.specs.Basics.{when, how_many}
+use Rattle.model.specs.Basics.{when}
 use Rattle.model.specs.Laws.Iter.{iter_more}
 use Rattle.mask.specs.MaskLaws.{how_many_le}
 use borrow.Author.Rules.{rules}

@@ -93,6 +93,9 @@ returns c =
     let write-columns = c.write_columns-p in
     let a = c.args in
     let w = write-columns.ensures in
-    let e = length_is (goal.at.returns c).After-bound_count-n in record { words = c.write_live.ensures
+    let e = length_is (goal.at.returns c).After-bound_count-n in record {
+      words = c.write_live.ensures
           ∙ rw (w.words, count2.ensures, bound-count.ensures) (put_three (count a.mask.live) a.kept.matches (how_many (λ v. get_or a.kept.bound.known v false) 32) (runs (λ v. column_words a.bindings.now a.kept.matches (get_or a.kept.bound.known v false) v) 32) (tab (λ i. flag (get_or a.mask.live i false)) a.kept.matches) a.answer.now a.at write-columns.result w.end)
-          ∙ placed_fits (batch_words a.kept.matches a.kept.bound.known a.bindings.now a.mask.live) a.at a.answer.now (omega (arith, if1.false, e)); end = omega (arith, e) }
+          ∙ placed_fits (batch_words a.kept.matches a.kept.bound.known a.bindings.now a.mask.live) a.at a.answer.now (omega (arith, if1.false, e));
+      end = omega (arith, e);
+    }

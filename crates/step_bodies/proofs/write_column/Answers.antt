@@ -9,7 +9,6 @@ use lib.ListN.{length, length-set}
 use Rattle.model.specs.Book.Decode.{part}
 use Rattle.model.specs.Laws.Bodies.{length_part}
 use Rattle.step_bodies.specs.Steps.{column_words}
-use borrow.Author.Rules.{rules}
 use Rattle.step_bodies.proofs.write_column.Goals as goal
 use Rattle.step_bodies.proofs.write_column.Goals.{Then-known}
 
@@ -51,4 +50,3 @@ returns-then-known c =
     let e = add-sub_cancel_left (256 * a.v.0) a.lanes in
     let w = c.write.ensures in
     rw if1.true record { words = w.words ∙ rw e (put_cons a.v.0 (part a.bindings.now (256 * a.v.0) a.lanes) a.answer.now a.at); end = w.end ∙ rw e (omega arith) }
-

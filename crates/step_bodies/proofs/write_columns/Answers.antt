@@ -1,12 +1,11 @@
 use mathlib.Core.List.{List}
 use Rattle.step_bodies.specs.Steps.{column_words}
-use Rattle.step_bodies.specs.Runs.{runs, put_none, end_none, put_more, end_more, put_fits}
-use lib.Seq.{sets}
+use Rattle.step_bodies.specs.Runs.{put_none, end_none, put_more, end_more, put_fits}
 use lib.ListN.{length, get_or}
 use native.Mathlib.Omega.{arith}
 use mathlib.Core.Bool.{false}
 use mathlib.Core.Path.{◌≡◌, ◌∙◌}
-use Prim.Native.Nat.{ℕ, ◌+◌, ◌-◌, ◌≤◌}
+use Prim.Native.Nat.{ℕ}
 use borrow.Author.Rules.{rules}
 use Rattle.step_bodies.proofs.write_columns.Goals as goal
 

@@ -1,13 +1,10 @@
-use mathlib.Core.List.{List}
 use Rattle.step_bodies.specs.Steps.{column_words}
-use Rattle.step_bodies.specs.Runs.{runs, put_none, end_none, put_more, end_more, put_fits}
+use Rattle.step_bodies.specs.Runs.{runs}
 use lib.Seq.{sets}
 use lib.ListN.{length, get_or}
-use native.Mathlib.Omega.{arith}
 use mathlib.Core.Bool.{false}
-use mathlib.Core.Path.{◌≡◌, ◌∙◌}
-use Prim.Native.Nat.{ℕ, ◌+◌, ◌-◌, ◌≤◌}
-use borrow.Author.Rules.{rules}
+use mathlib.Core.Path.{◌≡◌}
+use Prim.Native.Nat.{◌+◌, ◌-◌, ◌≤◌}
 use Rattle.step_bodies.proofs.write_columns.Given as goal
 
 abbrev pub invariant-loop-v : goal.invariant-loop-v

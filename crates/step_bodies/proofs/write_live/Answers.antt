@@ -1,12 +1,11 @@
 use Rattle.record_log.specs.LogLaws.{store_more}
 use Rattle.model.specs.Answer.{flag}
 use Rattle.model.specs.Basics.{tab}
-use lib.Seq.{sets}
-use lib.ListN.{length, get_or}
+use lib.ListN.{get_or}
 use native.Mathlib.Omega.{arith}
 use mathlib.Core.Bool.{false}
 use mathlib.Core.Path.{◌≡◌}
-use Prim.Native.Nat.{ℕ, ◌-◌, ◌≤◌}
+use Prim.Native.Nat.{ℕ}
 use borrow.Author.Rules.{rules}
 use Rattle.step_bodies.proofs.write_live.Goals as goal
 

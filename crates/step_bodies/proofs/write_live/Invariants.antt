@@ -1,13 +1,10 @@
-use Rattle.record_log.specs.LogLaws.{store_more}
 use Rattle.model.specs.Answer.{flag}
 use Rattle.model.specs.Basics.{tab}
 use lib.Seq.{sets}
 use lib.ListN.{length, get_or}
-use native.Mathlib.Omega.{arith}
 use mathlib.Core.Bool.{false}
 use mathlib.Core.Path.{◌≡◌}
-use Prim.Native.Nat.{ℕ, ◌-◌, ◌≤◌}
-use borrow.Author.Rules.{rules}
+use Prim.Native.Nat.{◌-◌, ◌≤◌}
 use Rattle.step_bodies.proofs.write_live.Given as goal
 
 abbrev pub invariant-loop-i : goal.invariant-loop-i

@@ -5,7 +5,6 @@ use Rattle.step_bodies.specs.Runs.{put_cons}
 use lib.ListN.{length-set}
 use native.Mathlib.Omega.{arith}
 use mathlib.Core.Path.{◌∙◌}
-use borrow.Author.Rules.{rules}
 use Rattle.step_bodies.proofs.write_prediction.Goals as goal
 
 pub returns-then-answer-end : goal.returns-then-answer-end
@@ -25,4 +24,3 @@ returns c =
     let flag2 = c.flag in
     let a = c.args in
     let w = c.write.ensures in record { words = w.words ∙ rw flag2.ensures (put_cons (flag a.made) a.row.now a.answer.now a.at) ∙ placed_fits (prediction_words a.made a.row.now) a.at a.answer.now (omega (arith, if1.false)); end = omega (arith, w.end) }
-

@@ -1,8 +1,6 @@
-use Rattle.answer.specs.Moved.{moved, moved_none, moved_turn, moved_all}
-use lib.ListN.{length}
+use Rattle.answer.specs.Moved.{moved_none, moved_turn, moved_all}
 use native.Mathlib.Omega.{arith}
 use mathlib.Core.Path.{◌≡◌, ◌∙◌}
-use Prim.Native.Nat.{◌-◌, ◌≤◌}
 use borrow.Author.Rules.{rules}
 use Rattle.answer.proofs.bodies.shift.Goals as goal
 

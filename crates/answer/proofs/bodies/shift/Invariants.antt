@@ -1,9 +1,7 @@
-use Rattle.answer.specs.Moved.{moved, moved_none, moved_turn, moved_all}
+use Rattle.answer.specs.Moved.{moved}
 use lib.ListN.{length}
-use native.Mathlib.Omega.{arith}
-use mathlib.Core.Path.{◌≡◌, ◌∙◌}
+use mathlib.Core.Path.{◌≡◌}
 use Prim.Native.Nat.{◌-◌, ◌≤◌}
-use borrow.Author.Rules.{rules}
 use Rattle.answer.proofs.bodies.shift.Given as goal
 
 abbrev pub invariant-loop-i : goal.invariant-loop-i

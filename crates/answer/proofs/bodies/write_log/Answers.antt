@@ -2,7 +2,6 @@ use Rattle.step_bodies.specs.Runs.{put_cons}
 use Rattle.model.specs.Answer.{flag}
 use lib.ListN.{length-set}
 use mathlib.Core.Path.{◌∙◌}
-use borrow.Author.Rules.{rules}
 use Rattle.answer.proofs.bodies.write_log.Goals as goal
 
 pub shape_of-answer : goal.shape_of-answer

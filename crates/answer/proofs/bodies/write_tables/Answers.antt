@@ -1,12 +1,11 @@
 use Rattle.answer.specs.Layout.{rows_length, table_words}
-use Rattle.step_bodies.specs.Runs.{runs, put_none, end_none, put_more, end_more, put_fits}
+use Rattle.step_bodies.specs.Runs.{put_none, end_none, put_more, end_more, put_fits}
 use Rattle.answer.specs.Sums.{sum, sum_none, sum_turn, sum_fits}
-use lib.Seq.{sets}
 use lib.ListN.{length}
 use native.Mathlib.Omega.{arith}
 use mathlib.Core.List.{List}
 use mathlib.Core.Path.{◌≡◌, ◌∙◌, sym, ap}
-use Prim.Native.Nat.{ℕ, ◌+◌, ◌-◌, ◌≤◌}
+use Prim.Native.Nat.{ℕ, ◌+◌}
 use borrow.Author.Rules.{rules}
 use Rattle.answer.proofs.bodies.write_tables.Goals as goal
 

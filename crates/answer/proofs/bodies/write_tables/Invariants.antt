@@ -1,13 +1,10 @@
 use Rattle.answer.specs.Layout.{rows_length, table_words}
-use Rattle.step_bodies.specs.Runs.{runs, put_none, end_none, put_more, end_more, put_fits}
-use Rattle.answer.specs.Sums.{sum, sum_none, sum_turn, sum_fits}
+use Rattle.step_bodies.specs.Runs.{runs}
+use Rattle.answer.specs.Sums.{sum}
 use lib.Seq.{sets}
 use lib.ListN.{length}
-use native.Mathlib.Omega.{arith}
-use mathlib.Core.List.{List}
-use mathlib.Core.Path.{◌≡◌, ◌∙◌, sym, ap}
-use Prim.Native.Nat.{ℕ, ◌+◌, ◌-◌, ◌≤◌}
-use borrow.Author.Rules.{rules}
+use mathlib.Core.Path.{◌≡◌}
+use Prim.Native.Nat.{◌+◌, ◌-◌, ◌≤◌}
 use Rattle.answer.proofs.bodies.write_tables.Given as goal
 
 abbrev pub invariant-loop-t : goal.invariant-loop-t

@@ -2,7 +2,6 @@ use Rattle.answer.specs.LayoutLaws.{small_rows}
 use Rattle.answer.specs.Layout.{entry_at}
 use borrow.Author.Tests.{lt-ltb, le-ltb}
 use native.Mathlib.Omega.{arith}
-use borrow.Author.Rules.{rules}
 use Rattle.answer.proofs.entries.entry_of.Goals as goal
 
 pub rows_length-n-requires : goal.rows_length-n-requires

@@ -1,10 +1,10 @@
 use Rattle.answer.specs.LayoutLaws.{small_entry}
 use Rattle.answer.specs.Layout.{entry_at}
-use Rattle.answer.specs.Sums.{sum, sum_none, sum_turn}
+use Rattle.answer.specs.Sums.{sum_none, sum_turn}
 use Rattle.answer.specs.declared.entries.Entry.{Entry}
 use native.Mathlib.Omega.{arith}
 use mathlib.Core.Path.{◌≡◌, sym, ap}
-use Prim.Native.Nat.{ℕ, ◌+◌, ◌-◌, ◌≤◌}
+use Prim.Native.Nat.{ℕ, ◌+◌}
 use borrow.Author.Rules.{rules}
 use Rattle.answer.proofs.entries.length_of.Goals as goal
 

@@ -1,4 +1,3 @@
-use borrow.Author.Rules.{rules}
 use Rattle.answer.proofs.entries.shape_of.Goals as goal
 
 pub returns : goal.returns

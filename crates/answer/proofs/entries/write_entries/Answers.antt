@@ -1,14 +1,12 @@
 use Rattle.answer.specs.LayoutLaws.{small_entry, length_entries}
 use Rattle.answer.specs.Layout.{entry_at, entry_words}
-use Rattle.step_bodies.specs.Runs.{runs, put_none, put_more}
+use Rattle.step_bodies.specs.Runs.{put_none, put_more}
 use Rattle.answer.specs.Sums.{sum, sum_none, sum_turn}
 use Rattle.answer.specs.declared.entries.Entry.{Entry}
-use lib.Seq.{sets}
-use lib.ListN.{length}
 use native.Mathlib.Omega.{arith}
 use mathlib.Core.List.{List}
 use mathlib.Core.Path.{◌≡◌, ap, ◌∙◌, refl}
-use Prim.Native.Nat.{ℕ, ◌+◌, ◌-◌, ◌*◌, ◌≤◌}
+use Prim.Native.Nat.{ℕ, ◌+◌, ◌*◌}
 use borrow.Author.Rules.{rules}
 use Rattle.answer.proofs.entries.write_entries.Goals as goal
 

@@ -1,15 +1,10 @@
-use Rattle.answer.specs.LayoutLaws.{small_entry, length_entries}
 use Rattle.answer.specs.Layout.{entry_at, entry_words}
-use Rattle.step_bodies.specs.Runs.{runs, put_none, put_more}
-use Rattle.answer.specs.Sums.{sum, sum_none, sum_turn}
-use Rattle.answer.specs.declared.entries.Entry.{Entry}
+use Rattle.step_bodies.specs.Runs.{runs}
+use Rattle.answer.specs.Sums.{sum}
 use lib.Seq.{sets}
 use lib.ListN.{length}
-use native.Mathlib.Omega.{arith}
-use mathlib.Core.List.{List}
-use mathlib.Core.Path.{◌≡◌, ap, ◌∙◌, refl}
-use Prim.Native.Nat.{ℕ, ◌+◌, ◌-◌, ◌*◌, ◌≤◌}
-use borrow.Author.Rules.{rules}
+use mathlib.Core.Path.{◌≡◌}
+use Prim.Native.Nat.{◌+◌, ◌-◌, ◌≤◌}
 use Rattle.answer.proofs.entries.write_entries.Given as goal
 
 abbrev pub invariant-loop-i : goal.invariant-loop-i

@@ -3,7 +3,6 @@ use native.Mathlib.Omega.{arith}
 use native.Mathlib.Numerals.{add-one}
 use mathlib.Core.Path.{◌≡◌}
 use Prim.Native.Nat.{suc, ◌+◌}
-use borrow.Author.Rules.{rules}
 use Rattle.answer.proofs.entries.write_entry.Goals as goal
 
 pub bounds-answer-at-2 : goal.bounds-answer-at-2
