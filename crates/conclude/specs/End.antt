@@ -12,7 +12,6 @@ use Rattle.answer.specs.declared.Assembled.{Assembled}
 use Rattle.answer.specs.declared.Assembled.TheVariants.{Words, Over}
 use Rattle.answer.specs.Layout.{Results, left_by, assembled, assembled_length}
 use Rattle.run.specs.declared.Progress.{Progress}
-use Rattle.run.specs.Progress.{Ran}
 use Rattle.simulation.specs.Runs.{RunIs}
 use Rattle.conclude.specs.declared.Outcome.{Outcome}
 use Rattle.conclude.specs.declared.Outcome.TheVariants.{Accepted, Refused}

@@ -1,19 +1,18 @@
 -- The end of a run is what the model says: refusals 12 and 13 at the step, 15, 16, or the answer.
-use Rattle.std.specs.Prelude.{ℕ, ◌+◌, ◌-◌, ◌<◌, ◌≤◌, ◌≡◌, ◌≢◌, Bool, true, false, not, cond, List, ◌++◌, ltb, leb, length, take, replicate}
+use Rattle.std.specs.Prelude.{ℕ, ◌+◌, ◌-◌, ◌≤◌, ◌≡◌, ◌≢◌, Bool, true, false, cond, List, ◌++◌, ltb, leb, length, take, replicate}
 use Rattle.std.proofs.Math.Path.{refl, subst}
-use Rattle.std.proofs.Common.{sym, ap, ◌∙◌, arith, lt-ltb, le-ltb, ltb-true, ltb-false, le-leb, leb-true}
-use Rattle.std.proofs.Math.Option.{Option, none, some}
+use Rattle.std.proofs.Common.{sym, ap, ◌∙◌, arith, ltb-true, ltb-false, le-leb, leb-true}
 use Rattle.std.proofs.lemmas.Bool.{lt-leb}
 use Rattle.model.specs.Basics.{◌else◌}
 use Rattle.model.specs.Book.Syntax.{Table}
-use Rattle.model.specs.Book.Words.{Refusal, unless}
+use Rattle.model.specs.Book.Words.{unless}
 use Rattle.model.specs.Book.Contents.{first_step, step_count, table_count}
 use Rattle.model.specs.Book.Read.{counters, steps}
-use Rattle.model.specs.Machine.State.{State, Status, going, stuck, spent, full}
+use Rattle.model.specs.Machine.State.{State, going, stuck}
 use Rattle.model.specs.Machine.Steps as machine
 use Rattle.model.specs.Answer as model
 use Rattle.model.specs.Answer.{row_words}
-use Rattle.model.specs.Outcome.{Lent, ran, committed_by, ended, end_refusal}
+use Rattle.model.specs.Outcome.{Lent, ran, committed_by, end_refusal}
 use Rattle.model.specs.Laws.Lists.{length_tab}
 use Rattle.model.specs.Laws.Book.{Readable}
 use Rattle.execution.specs.declared.Stop.{Stop}
@@ -23,13 +22,11 @@ use Rattle.commit.specs.Commit.{Left, committed_rows}
 use Rattle.answer.specs.declared.Assembled.{Assembled}
 use Rattle.answer.specs.declared.Assembled.TheVariants.{Words, Over}
 use Rattle.answer.specs.Layout.{left_by, assembled}
-use Rattle.run.specs.declared.Progress.{Progress}
 use Rattle.run.specs.Progress.{Ran}
 use Rattle.simulation.specs.Represents.{machine, status_of, bool_clash}
 use Rattle.simulation.specs.Runs.{RunIs, Runs, sticking, stopped, going_on}
 use Rattle.simulation.specs.Ends as ends
-use Rattle.conclude.specs.declared.Outcome.{Outcome}
-use Rattle.conclude.specs.declared.Outcome.TheVariants.{Accepted, Refused}
+use Rattle.conclude.specs.declared.Outcome.TheVariants.{Refused}
 use Rattle.conclude.specs.End.{Concludes}
 use Rattle.conclude.specs.End.{Settling, answered_by, settled, by_stop, by_length, concluded}
 

@@ -1,5 +1,5 @@
 -- The commit and the answer in the code, by what each of them left.
-use Rattle.std.specs.Prelude.{ℕ, ◌<◌, ◌≤◌, ◌≡◌, refl, Bool, true, false, cond, List, ltb, length, take}
+use Rattle.std.specs.Prelude.{ℕ, ◌≤◌, ◌≡◌, Bool, true, false, cond, List, length, take}
 use Rattle.std.proofs.Common.{sym, ◌∙◌, subst, arith, length-take, ltb-false}
 use Rattle.std.proofs.Math.Path.{ap}
 use Rattle.model.specs.Book.Contents.{table_count}
@@ -14,7 +14,7 @@ use Rattle.run.specs.Progress.{Ran}
 use Rattle.simulation.specs.Ends as ends
 use Rattle.conclude.specs.declared.Outcome.{Outcome}
 use Rattle.conclude.specs.declared.Outcome.TheVariants.{Refused}
-use Rattle.conclude.specs.End.{Settles, Settling, by_length, committed_to, settled, by_stop, concluded}
+use Rattle.conclude.specs.End.{Settles, by_length, committed_to, settled, by_stop, concluded}
 
 module _ (w : List ℕ) (p : Progress) (log rows answer : List ℕ) (n : ℕ) (n_is : n ≡ table_count w) (c : Left) (e : c ≡ committed_rows w n (take p.state.used log) rows) where
   is_left : c ≡ committed_rows w (table_count w) (take p.state.used log) rows

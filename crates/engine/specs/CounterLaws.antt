@@ -1,7 +1,6 @@
 -- The book's counters, as they are copied into an array of 16.
-use Rattle.std.specs.Prelude.{ℕ, ◌+◌, ◌-◌, ◌≡◌, refl, List, ◌++◌, get_or, drop, replicate}
-use Rattle.std.proofs.Common.{sym, ap, ◌∙◌}
-use Rattle.model.specs.Basics.{tab}
+use Rattle.std.specs.Prelude.{ℕ, ◌+◌, ◌≡◌, List, get_or, replicate}
+use Rattle.std.proofs.Common.{◌∙◌}
 use Rattle.model.specs.Book.Contents.{first_of, table_count, counter_count}
 use Rattle.model.specs.Book.Decode.{read_counter}
 use Rattle.model.specs.Book.Read.{counters}

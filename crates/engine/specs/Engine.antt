@@ -1,6 +1,6 @@
 -- What the engine returns and leaves, in the terms of document 01.
 use Rattle.std.specs.Prelude.{ℕ, ◌-◌, ◌≤◌, ◌≡◌, ◌≢◌, Bool, ◌&&◌, List, ◌++◌, eqb, leb, length, take, drop, replicate}
-use Rattle.std.proofs.Math.Option.{Option, none, some}
+use Rattle.std.proofs.Math.Option.{none, some}
 use Rattle.model.specs.Book.Read.{counters, steps, steps_refusal}
 use Rattle.model.specs.Machine.State.{stuck}
 use Rattle.model.specs.Machine.Steps as machine

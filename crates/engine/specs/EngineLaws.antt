@@ -1,25 +1,21 @@
 -- From the parts to the whole: what is decided is what document 01 permits.
-use Rattle.std.specs.Prelude.{ℕ, suc, ◌-◌, ◌^◌, ◌<◌, ◌≤◌, ◌≡◌, refl, ◌≢◌, Bool, true, false, not, List, [], ◌∷◌, ◌++◌, length, get_or, take, drop, replicate}
-use Rattle.std.proofs.Common.{sym, ◌∙◌, subst, arith, length-append, drop_at}
+use Rattle.std.specs.Prelude.{ℕ, suc, ◌-◌, ◌^◌, ◌<◌, ◌≤◌, ◌≡◌, refl, true, false, List, [], ◌∷◌, length, get_or, take, drop, replicate}
+use Rattle.std.proofs.Common.{sym, ◌∙◌, subst, arith, drop_at}
 use Rattle.std.proofs.Math.Path.{ap}
-use Rattle.std.proofs.Math.Option.{Option, none, some}
-use Rattle.std.proofs.lemmas.List.{length-replicate}
+use Rattle.std.proofs.Math.Option.{none, some}
 use Rattle.std.proofs.Math.Seq.{take_at}
-use Rattle.model.specs.Basics.{found, ◌else◌, All}
+use Rattle.model.specs.Basics.{All}
 use Rattle.model.specs.Book.Syntax.{Table}
-use Rattle.model.specs.Book.Words.{Refusal, unless, Byte, words_of, bytes_refusal}
+use Rattle.model.specs.Book.Words.{Byte, words_of, bytes_refusal}
 use Rattle.model.specs.Book.Contents.{first_step, step_count}
 use Rattle.model.specs.Book.Read.{counters, steps}
-use Rattle.model.specs.Machine.State.{State, stuck}
+use Rattle.model.specs.Machine.State.{State}
 use Rattle.model.specs.Machine.Steps as machine
 use Rattle.model.specs.Answer as model
 use Rattle.model.specs.Answer.{Arranged, same}
-use Rattle.model.specs.Outcome.{Lent, accepted, refused, lent_refusal, words_refusal, book_refusal, end_refusal, ran, committed_by, refusal, outcome, Permitted, left, committed}
-use Rattle.model.specs.Laws.Logic.{else_none}
-use Rattle.model.specs.Laws.Book.{Readable, few_steps}
+use Rattle.model.specs.Outcome.{Lent, words_refusal, book_refusal, end_refusal, refusal, outcome, Permitted, left, committed}
 use Rattle.model.specs.Safety.BookClaims.{no_contents, no_bodies, no_steps}
 use Rattle.admit.specs.BookLaws.{words_some, words_most, book_on}
-use Rattle.execution.specs.declared.Stop.TheVariants.{Going}
 use Rattle.execution.specs.Execution.{goes_on}
 use Rattle.run.specs.Progress.{Ran, ran_steps}
 use Rattle.simulation.specs.Represents.{machine, bool_clash}

@@ -4,7 +4,6 @@ use Rattle.execution.specs.Execution.{Logged}
 use Rattle.predict.specs.declared.Asking.{Asking}
 use Rattle.action.specs.Act.{Lanes, with_log, serving, acted}
 use Rattle.action.specs.ActLaws.{searchable}
-use borrow.Author.Rules.{rules}
 use Rattle.action.proofs.act.Goals as goal
 
 pub lookup_or_insert_default-requires : goal.lookup_or_insert_default-requires

@@ -1,4 +1,3 @@
-use borrow.Author.Rules.{rules}
 use Rattle.action.proofs.bind_dst.Goals as goal
 
 pub insert-requires : goal.insert-requires

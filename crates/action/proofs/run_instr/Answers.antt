@@ -3,7 +3,6 @@ use Rattle.instr.specs.Stands.{binds_of}
 use Rattle.instr.specs.StandsLaws.{binds_variable}
 use Rattle.action.specs.Act.{Lanes}
 use Rattle.action.specs.Run.{Running, finished, ran_instr}
-use borrow.Author.Rules.{rules}
 use Rattle.action.proofs.run_instr.Goals as goal
 
 pub bind_dst-kept-requires : goal.bind_dst-kept-requires

@@ -1,9 +1,8 @@
-use Prim.Native.Nat.{ℕ, ◌+◌, ◌-◌, ◌<◌, ◌≤◌}
+use Prim.Native.Nat.{ℕ, ◌+◌, ◌<◌}
 use mathlib.Core.Path.{◌≡◌, refl, ap, ◌∙◌}
 use mathlib.Core.List.{List}
 use native.Mathlib.Omega.{arith}
-use lib.ListN.{length, get_or}
-use Rattle.model.specs.Basics.{iter}
+use lib.ListN.{get_or}
 use Rattle.model.specs.Book.Contents.{first_of, rule_count}
 use Rattle.model.specs.Outcome.{rule_first}
 use Rattle.model.specs.Laws.Book.{Readable, rule_entry}
@@ -11,7 +10,7 @@ use Rattle.model.specs.Laws.Iter.{iter_more}
 use Rattle.contents.specs.ContentsLaws.{first_rule_is}
 use Rattle.instr.specs.Instr.{instr_at}
 use Rattle.rules.specs.RuleLaws.{At, many, place_of, small_here, stands_here, next_here}
-use Rattle.action.specs.Run.{Running, ran_next, ran_instrs}
+use Rattle.action.specs.Run.{ran_next, ran_instrs}
 use borrow.Author.Rules.{rules}
 use Rattle.action.proofs.run_instrs.Goals as goal
 
@@ -64,8 +63,7 @@ loop-j-preserved c =
     let q = c.requires in
     let l = c.loop-j in
     let x = here a.words.now a.r l.j _ l.p q.0 q.3 l.invariant.0 loop-test.true l.invariant.2 in
-    let r = c.run_next-batch in
-    (
+    let r = c.run_next-batch in (
       l.invariant.0,
       search rules,
       c.next-p.ensures ∙ next_here x,

@@ -1,18 +1,9 @@
-use Prim.Native.Nat.{ℕ, ◌+◌, ◌-◌, ◌<◌, ◌≤◌}
-use mathlib.Core.Path.{◌≡◌, refl, ap, ◌∙◌}
-use mathlib.Core.List.{List}
-use native.Mathlib.Omega.{arith}
-use lib.ListN.{length, get_or}
+use Prim.Native.Nat.{◌-◌, ◌≤◌}
+use mathlib.Core.Path.{◌≡◌}
+use lib.ListN.{length}
 use Rattle.model.specs.Basics.{iter}
-use Rattle.model.specs.Book.Contents.{first_of, rule_count}
-use Rattle.model.specs.Outcome.{rule_first}
-use Rattle.model.specs.Laws.Book.{Readable, rule_entry}
-use Rattle.model.specs.Laws.Iter.{iter_more}
-use Rattle.contents.specs.ContentsLaws.{first_rule_is}
-use Rattle.instr.specs.Instr.{instr_at}
-use Rattle.rules.specs.RuleLaws.{At, many, place_of, small_here, stands_here, next_here}
-use Rattle.action.specs.Run.{Running, ran_next, ran_instrs}
-use borrow.Author.Rules.{rules}
+use Rattle.rules.specs.RuleLaws.{many, place_of}
+use Rattle.action.specs.Run.{Running, ran_next}
 use Rattle.action.proofs.run_instrs.Given as goal
 
 abbrev pub invariant-loop-j : goal.invariant-loop-j

@@ -1,4 +1,3 @@
-use borrow.Author.Rules.{rules}
 use Rattle.conclude.proofs.by_length.Goals as goal
 
 pub returns-in-Words : goal.returns-in-Words

@@ -4,7 +4,6 @@ use Rattle.model.specs.Laws.Book.{few_tables, few_counters, few_rules}
 use Rattle.contents.specs.ContentsLaws.{first_step_is}
 use Rattle.execution.specs.declared.Stop.TheVariants.{Going, Spent, Full}
 use Rattle.conclude.specs.SettleLaws.{concluded_by}
-use borrow.Author.Rules.{rules}
 use Rattle.conclude.proofs.conclude.Goals as goal
 
 pub overflow_add-step : goal.overflow_add-step

@@ -4,7 +4,6 @@ use lib.Seq.{length-take-le}
 use Rattle.model.specs.Laws.Book.{few_tables}
 use Rattle.commit.specs.BookLaws.{ready_table}
 use Rattle.conclude.specs.SettleLaws.{settled_over, settled_answer, enough_here}
-use borrow.Author.Rules.{rules}
 use Rattle.conclude.proofs.settle.Goals as goal
 
 pub slice_bounds-commit-end : goal.slice_bounds-commit-end

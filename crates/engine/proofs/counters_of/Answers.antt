@@ -1,8 +1,8 @@
 use mathlib.Core.Path.{◌≡◌, ap, ◌∙◌}
-use Prim.Native.Nat.{ℕ, ◌+◌, ◌-◌, ◌≤◌}
-use lib.ListN.{length, get_or, replicate, length-set, length-replicate}
+use Prim.Native.Nat.{ℕ, ◌+◌}
+use lib.ListN.{get_or, replicate, length-set, length-replicate}
 use native.Mathlib.Omega.{arith}
-use Rattle.words.specs.Filled.{filled_turn, filled}
+use Rattle.words.specs.Filled.{filled_turn}
 use Rattle.model.specs.Laws.Book.{few_tables, few_counters}
 use Rattle.engine.specs.CounterLaws.{counters_filled}
 use Rattle.model.specs.Book.Contents.{first_of}

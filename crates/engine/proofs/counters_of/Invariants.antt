@@ -1,13 +1,8 @@
-use mathlib.Core.Path.{◌≡◌, ap, ◌∙◌}
-use Prim.Native.Nat.{ℕ, ◌+◌, ◌-◌, ◌≤◌}
-use lib.ListN.{length, get_or, replicate, length-set, length-replicate}
-use native.Mathlib.Omega.{arith}
-use Rattle.words.specs.Filled.{filled_turn, filled}
-use Rattle.model.specs.Laws.Book.{few_tables, few_counters}
-use Rattle.engine.specs.CounterLaws.{counters_filled}
+use mathlib.Core.Path.{◌≡◌}
+use Prim.Native.Nat.{◌+◌, ◌-◌, ◌≤◌}
+use lib.ListN.{length, get_or}
+use Rattle.words.specs.Filled.{filled}
 use Rattle.model.specs.Book.Contents.{first_of}
-use Rattle.model.specs.Basics.{tab}
-use borrow.Author.Rules.{rules}
 use Rattle.engine.proofs.counters_of.Given as goal
 
 abbrev pub invariant-loop-c : goal.invariant-loop-c

@@ -1,12 +1,10 @@
 use lib.ListN.{length}
-use borrow.Author.Tests.{not-true, not-false}
 use mathlib.Core.Path.{sym, ap, ◌∙◌}
 use Rattle.rules.specs.Rules.{verdict_of}
 use Rattle.admit.specs.BookLaws.{book_stop}
 use Rattle.engine.specs.Engine.{lent_of}
 use Rattle.engine.specs.EngineLaws.{decided_14, decided_book}
 use Rattle.engine.specs.CodeLaws.{true_fit, zeros_as}
-use borrow.Author.Rules.{rules}
 use Rattle.engine.proofs.decide.Goals as goal
 
 pub returns-then-not-lengths_fit : goal.returns-then-not-lengths_fit

@@ -4,7 +4,6 @@ use lib.ListN.{length, replicate, length-replicate}
 use Rattle.model.specs.Book.Words.{words_of}
 use Rattle.model.specs.Laws.Words.{length_words}
 use Rattle.admit.specs.BookLaws.{words_most}
-use borrow.Author.Rules.{rules}
 use Rattle.engine.proofs.decide_book.Goals as goal
 
 pub decide_words-requires : goal.decide_words-requires

@@ -5,7 +5,6 @@ use lib.ListN.{length, length-replicate}
 use Rattle.admit.specs.BookLaws.{words_some, words_most, front_within, front_is, front_count}
 use Rattle.engine.specs.Engine.{lent_of}
 use Rattle.engine.specs.CodeLaws.{fit_true, front_runnable, front_decided, front_refused}
-use borrow.Author.Rules.{rules}
 use Rattle.engine.proofs.decide_words.Goals as goal
 
 pub load_words-n-requires : goal.load_words-n-requires

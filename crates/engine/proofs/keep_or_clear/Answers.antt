@@ -1,4 +1,3 @@
-use borrow.Author.Rules.{rules}
 use Rattle.engine.proofs.keep_or_clear.Goals as goal
 
 pub returns-in-Refused : goal.returns-in-Refused

@@ -2,7 +2,6 @@ use lib.ListN.{length}
 use mathlib.Core.Path.{refl, ◌∙◌}
 use Rattle.engine.specs.Engine.{lent_of}
 use Rattle.engine.specs.CodeLaws.{zeros_as, zeroed, lent_same, left_permitted, left_answer}
-use borrow.Author.Rules.{rules}
 use Rattle.engine.proofs.run.Goals as goal
 
 pub decide-outcome-requires : goal.decide-outcome-requires
@@ -73,5 +72,5 @@ returns c =
       bindings = zeros_as _ _ _ clear5.ensures (d.auto.bindings ∙ bindings);
       index = zeros_as _ _ _ clear6.ensures (d.auto.index ∙ index);
       log = zeros_as _ _ _ clear7.ensures (d.auto.log ∙ log);
-      tables = zeros_as _ _ _ clear8.ensures d.auto.tables
+      tables = zeros_as _ _ _ clear8.ensures d.auto.tables;
     }

@@ -5,7 +5,6 @@ use lib.ListN.{length, length-replicate}
 use Rattle.model.specs.Laws.Book.{few_entries}
 use Rattle.run.specs.declared.Progress.{Progress}
 use Rattle.engine.specs.CodeLaws.{may_conclude, book_concludes}
-use borrow.Author.Rules.{rules}
 use Rattle.engine.proofs.run_book.Goals as goal
 
 pub of-contents-requires : goal.of-contents-requires

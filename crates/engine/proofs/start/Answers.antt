@@ -1,4 +1,3 @@
-use borrow.Author.Rules.{rules}
 use Rattle.engine.proofs.start.Goals as goal
 
 pub returns : goal.returns

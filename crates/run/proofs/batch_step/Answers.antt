@@ -60,9 +60,12 @@ returns-then-going c =
     let b = c.write_batch-end in
     let here = entry_here pre.2 first_step.ensures a.p.done in
     let A : Ran = record { progress = a.p; bindings = a.bindings.now; log = a.log.now; index = a.index.now; answer = a.answer.now } in
-    let R : Running = record { batch = r.result; bindings = r.new.bindings; log = r.new.log; index = r.new.index } in record { is = batch_answered R A c.advance.result b.new.answer (sym going.ensures ∙ if1.true) (c.advance.ensures ∙ ap (λ (e : ℕ). advanced r.result.state e a.p) b.ensures.end) b.ensures.words
+    let R : Running = record { batch = r.result; bindings = r.new.bindings; log = r.new.log; index = r.new.index } in record {
+      is = batch_answered R A c.advance.result b.new.answer (sym going.ensures ∙ if1.true) (c.advance.ensures ∙ ap (λ (e : ℕ). advanced r.result.state e a.p) b.ensures.end) b.ensures.words
           ∙ ap (λ (x : Running). batch_told x A) r.ensures.is
-          ∙ ap (λ (i : ℕ). batch_step a.words.now i A) here; fits = subst (λ (x : Progress). (x.state.used ≤ length a.log.now) × (x.done ≤ a.p.done + 1) × (x.at ≤ a.p.at + 8483)) (sym c.advance.ensures) (r.ensures.fits, omega arith, most (goal.at.returns-then-going c).After-write_batch-end (few (goal.at.returns-then-going c).After-run_batch-batch)) }
+          ∙ ap (λ (i : ℕ). batch_step a.words.now i A) here;
+      fits = subst (λ (x : Progress). (x.state.used ≤ length a.log.now) × (x.done ≤ a.p.done + 1) × (x.at ≤ a.p.at + 8483)) (sym c.advance.ensures) (r.ensures.fits, omega arith, most (goal.at.returns-then-going c).After-write_batch-end (few (goal.at.returns-then-going c).After-run_batch-batch));
+    }
 
 pub returns : goal.returns
 unfolding batch_step
@@ -73,6 +76,9 @@ returns c =
     let r = c.run_batch-batch in
     let here = entry_here pre.2 first_step.ensures a.p.done in
     let A : Ran = record { progress = a.p; bindings = a.bindings.now; log = a.log.now; index = a.index.now; answer = a.answer.now } in
-    let R : Running = record { batch = r.result; bindings = r.new.bindings; log = r.new.log; index = r.new.index } in record { is = batch_stopped R A c.halt.result (sym c.going.ensures ∙ c.if-going.false) c.halt.ensures
+    let R : Running = record { batch = r.result; bindings = r.new.bindings; log = r.new.log; index = r.new.index } in record {
+      is = batch_stopped R A c.halt.result (sym c.going.ensures ∙ c.if-going.false) c.halt.ensures
           ∙ ap (λ (x : Running). batch_told x A) r.ensures.is
-          ∙ ap (λ (i : ℕ). batch_step a.words.now i A) here; fits = subst (λ (x : Progress). (x.state.used ≤ length a.log.now) × (x.done ≤ a.p.done + 1) × (x.at ≤ a.p.at + 8483)) (sym c.halt.ensures) (r.ensures.fits, omega arith, omega arith) }
+          ∙ ap (λ (i : ℕ). batch_step a.words.now i A) here;
+      fits = subst (λ (x : Progress). (x.state.used ≤ length a.log.now) × (x.done ≤ a.p.done + 1) × (x.at ≤ a.p.at + 8483)) (sym c.halt.ensures) (r.ensures.fits, omega arith, omega arith);
+    }

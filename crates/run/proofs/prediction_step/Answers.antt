@@ -11,7 +11,6 @@ use Rattle.step_bodies.specs.Steps.{placed, prediction_words}
 use Rattle.run.specs.declared.Progress.{Progress}
 use Rattle.run.specs.Progress.{Ran, advanced, row_told, prediction_step}
 use Rattle.run.specs.ProgressLaws.{entry_here, step_here, kind_here, row_most, row_answered_lem, row_stopped}
-use borrow.Author.Rules.{rules}
 use Rattle.run.proofs.prediction_step.Goals as goal
 use Rattle.run.proofs.prediction_step.Goals.{After-write_prediction-end}
 
@@ -68,10 +67,13 @@ returns-then-going c =
     let i = first_step.result + a.p.done in
     let here = entry_here pre.2 first_step.ensures a.p.done in
     let A : Ran = record { progress = a.p; bindings = a.bindings.now; log = a.log.now; index = a.index.now; answer = a.answer.now } in
-    let G : Gotten = record { got = r.result; log = r.new.log; index = r.new.index } in record { is = row_answered_lem w (first_of w i) G A c.advance.result b.new.answer (sym going.ensures ∙ if1.true)
+    let G : Gotten = record { got = r.result; log = r.new.log; index = r.new.index } in record {
+      is = row_answered_lem w (first_of w i) G A c.advance.result b.new.answer (sym going.ensures ∙ if1.true)
           (c.advance.ensures ∙ ap (λ (e : ℕ). advanced r.result.state e a.p) (b.ensures.end ∙ ap (λ (l : List ℕ). a.p.at + length (prediction_words r.result.made l)) row)) (b.ensures.words ∙ ap (λ (l : List ℕ). placed (prediction_words r.result.made l) a.p.at a.answer.now) row)
           ∙ ap (λ (x : Gotten). row_told w (first_of w i) x A) r.ensures.is
-          ∙ ap (λ (i : ℕ). prediction_step w i A) here; fits = subst (λ (x : Progress). (x.state.used ≤ length a.log.now) × (x.done ≤ a.p.done + 1) × (x.at ≤ a.p.at + 8483)) (sym c.advance.ensures) (r.ensures.fits, omega arith, omega (arith, most (goal.at.returns-then-going c).After-write_prediction-end)) }
+          ∙ ap (λ (i : ℕ). prediction_step w i A) here;
+      fits = subst (λ (x : Progress). (x.state.used ≤ length a.log.now) × (x.done ≤ a.p.done + 1) × (x.at ≤ a.p.at + 8483)) (sym c.advance.ensures) (r.ensures.fits, omega arith, omega (arith, most (goal.at.returns-then-going c).After-write_prediction-end));
+    }
 
 pub returns : goal.returns
 unfolding prediction_step
@@ -84,6 +86,9 @@ returns c =
     let i = first_step.result + a.p.done in
     let here = entry_here pre.2 first_step.ensures a.p.done in
     let A : Ran = record { progress = a.p; bindings = a.bindings.now; log = a.log.now; index = a.index.now; answer = a.answer.now } in
-    let G : Gotten = record { got = r.result; log = r.new.log; index = r.new.index } in record { is = row_stopped w (first_of w i) G A c.halt.result (sym c.going.ensures ∙ c.if-going.false) c.halt.ensures
+    let G : Gotten = record { got = r.result; log = r.new.log; index = r.new.index } in record {
+      is = row_stopped w (first_of w i) G A c.halt.result (sym c.going.ensures ∙ c.if-going.false) c.halt.ensures
           ∙ ap (λ (x : Gotten). row_told w (first_of w i) x A) r.ensures.is
-          ∙ ap (λ (i : ℕ). prediction_step w i A) here; fits = subst (λ (x : Progress). (x.state.used ≤ length a.log.now) × (x.done ≤ a.p.done + 1) × (x.at ≤ a.p.at + 8483)) (sym c.halt.ensures) (r.ensures.fits, omega arith, omega arith) }
+          ∙ ap (λ (i : ℕ). prediction_step w i A) here;
+      fits = subst (λ (x : Progress). (x.state.used ≤ length a.log.now) × (x.done ≤ a.p.done + 1) × (x.at ≤ a.p.at + 8483)) (sym c.halt.ensures) (r.ensures.fits, omega arith, omega arith);
+    }

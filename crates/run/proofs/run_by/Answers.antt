@@ -1,12 +1,10 @@
-use Prim.Native.Nat.{◌-◌, ◌*◌, ◌<◌, ◌≤◌}
+use Prim.Native.Nat.{◌<◌}
 use mathlib.Core.Path.{◌≡◌, refl, ◌∙◌}
 use native.Mathlib.Omega.{arith}
-use lib.ListN.{length}
-use Rattle.model.specs.Basics.{iter}
 use Rattle.model.specs.Book.Contents.{step_count}
 use Rattle.model.specs.Laws.Book.{few_steps}
 use Rattle.model.specs.Laws.Iter.{iter_more}
-use Rattle.run.specs.Progress.{Ran, ran_next, ran_steps}
+use Rattle.run.specs.Progress.{ran_next, ran_steps}
 use borrow.Author.Rules.{rules}
 use Rattle.run.proofs.run_by.Goals as goal
 
@@ -36,8 +34,7 @@ pub loop-k-preserved : goal.loop-k-preserved
 loop-k-preserved c =
     let l = c.loop-k in
     let r = c.run_next-p in
-    let a = c.args in
-    (
+    let a = c.args in (
       search rules,
       r.auto.bindings ∙ l.invariant.1,
       r.auto.log ∙ l.invariant.2,

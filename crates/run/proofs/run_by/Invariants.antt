@@ -1,13 +1,8 @@
-use Prim.Native.Nat.{◌-◌, ◌*◌, ◌<◌, ◌≤◌}
-use mathlib.Core.Path.{◌≡◌, refl, ◌∙◌}
-use native.Mathlib.Omega.{arith}
+use Prim.Native.Nat.{◌-◌, ◌*◌, ◌≤◌}
+use mathlib.Core.Path.{◌≡◌}
 use lib.ListN.{length}
 use Rattle.model.specs.Basics.{iter}
-use Rattle.model.specs.Book.Contents.{step_count}
-use Rattle.model.specs.Laws.Book.{few_steps}
-use Rattle.model.specs.Laws.Iter.{iter_more}
-use Rattle.run.specs.Progress.{Ran, ran_next, ran_steps}
-use borrow.Author.Rules.{rules}
+use Rattle.run.specs.Progress.{Ran, ran_next}
 use Rattle.run.proofs.run_by.Given as goal
 
 abbrev pub invariant-loop-k : goal.invariant-loop-k

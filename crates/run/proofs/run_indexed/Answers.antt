@@ -4,7 +4,6 @@ use native.Mathlib.Omega.{arith}
 use Rattle.model.specs.Laws.Book.{few_tables}
 use Rattle.hash_index.specs.Book.{book_indexed}
 use Rattle.action.specs.ActLaws.{table_stands}
-use borrow.Author.Rules.{rules}
 use Rattle.run.proofs.run_indexed.Goals as goal
 
 pub build_all-requires : goal.build_all-requires

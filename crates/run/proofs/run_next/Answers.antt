@@ -5,7 +5,6 @@ use Rattle.model.specs.Laws.Book.{step_entry}
 use Rattle.contents.specs.ContentsLaws.{first_step_is}
 use Rattle.run.specs.Progress.{Ran, next_entry}
 use Rattle.run.specs.ProgressLaws.{entry_here, step_here, not_batch, next_batch, next_prediction, next_stopped}
-use borrow.Author.Rules.{rules}
 use Rattle.run.proofs.run_next.Goals as goal
 use Rattle.run.proofs.run_next.Goals.{Else-kind_of-eq4}
 

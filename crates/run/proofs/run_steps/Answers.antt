@@ -3,7 +3,6 @@ use mathlib.Core.Logic.{inl}
 use native.Mathlib.Omega.{arith}
 use Rattle.model.specs.Laws.Book.{few_tables}
 use Rattle.hash_index.specs.IndexLaws.{serves_few}
-use borrow.Author.Rules.{rules}
 use Rattle.run.proofs.run_steps.Goals as goal
 
 pub rows_before-requires : goal.rows_before-requires

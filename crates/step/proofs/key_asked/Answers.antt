@@ -1,7 +1,6 @@
 use mathlib.Core.Path.{◌∙◌}
 use native.Mathlib.Omega.{arith}
 use Rattle.step.specs.StepsLaws.{entry_small, body_small, prediction_facts}
-use borrow.Author.Rules.{rules}
 use Rattle.step.proofs.key_asked.Goals as goal
 
 pub first_of-at-requires : goal.first_of-at-requires

@@ -1,5 +1,4 @@
 use Rattle.step.specs.StepsLaws.{lane_count_more}
-use borrow.Author.Rules.{rules}
 use Rattle.step.proofs.lane_count.Goals as goal
 
 pub returns-else-v-eq0 : goal.returns-else-v-eq0

@@ -2,7 +2,6 @@ use mathlib.Core.Path.{◌∙◌}
 use native.Mathlib.Omega.{arith}
 use Rattle.step.specs.Steps.{row_answered}
 use Rattle.step.specs.StepsLaws.{entry_small, table_here}
-use borrow.Author.Rules.{rules}
 use Rattle.step.proofs.row_answered.Goals as goal
 
 pub first_of-at-requires : goal.first_of-at-requires

@@ -7,7 +7,6 @@ use lib.ListN.{replicate}
 use Rattle.mask.specs.Masks.{first_lanes}
 use Rattle.step.specs.Steps.{ran_batch}
 use Rattle.step.specs.StepsLaws.{entry_small, batch_facts, columns_within}
-use borrow.Author.Rules.{rules}
 use Rattle.step.proofs.run_batch.Goals as goal
 
 pub first_of-at-requires : goal.first_of-at-requires

@@ -3,7 +3,6 @@ use native.Mathlib.Omega.{arith}
 use Rattle.args.specs.Args.{words_at}
 use Rattle.step.specs.Steps.{asked_row}
 use Rattle.step.specs.StepsLaws.{entry_small, prediction_facts, table_here, writes_short}
-use borrow.Author.Rules.{rules}
 use Rattle.step.proofs.run_prediction.Goals as goal
 
 pub first_of-at-requires : goal.first_of-at-requires

@@ -1,5 +1,4 @@
 use mathlib.Core.Path.{◌∙◌}
-use borrow.Author.Rules.{rules}
 use Rattle.action.proofs.lookup.fill_or_else.Goals as goal
 
 pub fill-served-requires : goal.fill-served-requires

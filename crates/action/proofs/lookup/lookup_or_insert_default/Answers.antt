@@ -1,7 +1,6 @@
 use mathlib.Core.Path.{ap, ◌∙◌}
 use Rattle.predict.specs.Predict.{Served}
 use Rattle.action.specs.Act.{Lanes, with_served}
-use borrow.Author.Rules.{rules}
 use Rattle.action.proofs.lookup.lookup_or_insert_default.Goals as goal
 
 pub fill-found-requires : goal.fill-found-requires

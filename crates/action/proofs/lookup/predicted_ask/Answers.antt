@@ -1,4 +1,3 @@
-use borrow.Author.Rules.{rules}
 use Rattle.action.proofs.lookup.predicted_ask.Goals as goal
 
 pub returns : goal.returns
