@@ -82,6 +82,8 @@ build_rust() {
     rustc $flags --crate-type rlib --crate-name book -o "$out/lib/libbook.rlib" "$here/src/book.rs"
     rustc $flags -L "$out/lib" $externs --extern book="$out/lib/libbook.rlib" --crate-type rlib \
         --crate-name core_relations -o "$out/lib/libcore_relations.rlib" "$out/tree/lib.rs"
+    # `rt ci` refuses links, wherever they are.
+    rm -rf "$out/tree"
 }
 
 # The program: build_program FOLDER-OF-SOURCES RESULT FLAGS...
