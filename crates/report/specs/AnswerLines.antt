@@ -1,10 +1,10 @@
--- The lines read from the words of an answer are the model's.
+-- The lines read from the words of an answer are the model's, family by family; `proofs/Prints` puts them together.
 use Prim.Native.Nat.{ℕ, zero, suc, ◌+◌, ◌-◌, ◌<◌, ◌≤◌}
 use Rattle.std.specs.Prelude.{◌≡◌, Bool, true, false, cond, take, drop}
 use Rattle.std.proofs.Math.Path.{refl, sym, ap}
 use Rattle.std.proofs.Common.{◌∙◌, add-zero}
 use Rattle.std.proofs.Math.Option.{some}
-use mathlib.Core.List.{List, [], ◌∷◌, ◌++◌, map, reverse, append-nil, append_assoc}
+use mathlib.Core.List.{List, [], ◌∷◌, ◌++◌, map, append-nil, append_assoc}
 use Rattle.std.proofs.Math.Nat.{zero-sub}
 use Rattle.std.proofs.Math.Numerals.{add-one}
 use Rattle.std.proofs.Math.Decide.{dec_lt}
@@ -16,10 +16,10 @@ use Rattle.model.specs.Basics.{iter, when, how_many, All}
 use Rattle.model.specs.Book.Syntax.{Counter, next_of, Table, table_at}
 use Rattle.model.specs.Book.Contents.{count, kind_of, group_of, first_of, members, table_count}
 use Rattle.model.specs.Book.Decode.{read_table}
-use Rattle.model.specs.Machine.State.{State, Record, record_size, Answer, survivors, predicted}
+use Rattle.model.specs.Machine.State.{Record, record_size, Answer, survivors, predicted}
 use Rattle.model.specs.Laws.Logic.{none_some, some_inj, at_length, All-at, All-map}
 use Rattle.model.specs.Laws.Book.{table_is}
-use Rattle.model.specs.Answer.{Body, table_body, counter_body, step_body, log_body, lay_out, answer, flag}
+use Rattle.model.specs.Answer.{Body, table_body, counter_body, step_body, log_body, lay_out, flag}
 use Rattle.model.specs.Printed.{Line, run, row, changed, table, counter, step_line, step_lines, record_line as line_of, record_lines as lines_of, table_lines, counter_lines}
 use Rattle.record_log.specs.Log.{log_of, place_of}
 use Rattle.record_log.specs.LogLaws.{kind_at, table_at_lem}
@@ -27,7 +27,7 @@ use Rattle.record_log.specs.Walk.{end_of}
 use Rattle.record_log.specs.RecordLaws.{Sized, size_is, records_of, words_are, walk_records}
 use Rattle.report.specs.declared.lines.Family.{Family}
 use Rattle.report.specs.declared.lines.Family.TheVariants.{Steps, Tables, Counters}
-use Rattle.report.specs.Lines.{numbered, record_line, body_of, entry_line, family_lines, log_body as last_body, record_lines, log_lines, answer_lines}
+use Rattle.report.specs.Lines.{numbered, record_line, body_of, entry_line, family_lines, log_body as last_body, record_lines, log_lines}
 use Rattle.report.specs.Entries.{count_is, kind_is, body_is, word_is}
 
 -- ## Lists
@@ -179,10 +179,10 @@ module _ (ts : List Table) (cs : List Counter) (as' : List Answer) (changes : Bo
   abbrev bodies : List Body
   bodies = front ++ (last ∷ [])
 
-  abbrev w : List ℕ
+  abbrev pub w : List ℕ
   w = lay_out bodies
 
-  step_lines_lem : family_lines w Steps ≡ step_lines 0 as'
+  pub step_lines_lem : family_lines w Steps ≡ step_lines 0 as'
   unfolding body_line lined
   step_lines_lem =
       let t = quiet Steps table_body (λ k x. refl) 0 ts in
@@ -192,7 +192,7 @@ module _ (ts : List Table) (cs : List Counter) (as' : List Answer) (changes : Bo
       ∙ lined_next Steps 0 front (last ∷ []) (step_lines 0 as') [] (lined_next Steps 0 (map table_body ts ++ map counter_body cs) (map step_body as') [] (step_lines 0 as') (lined_next Steps 0 (map table_body ts) (map counter_body cs) [] [] t c) s) refl
       ∙ append-nil (step_lines 0 as')
 
-  table_lines_lem : family_lines w Tables ≡ table_lines 0 ts
+  pub table_lines_lem : family_lines w Tables ≡ table_lines 0 ts
   unfolding body_line lined
   table_lines_lem =
       let ls = table_lines 0 ts in
@@ -203,7 +203,7 @@ module _ (ts : List Table) (cs : List Counter) (as' : List Answer) (changes : Bo
       ∙ lined_next Tables 0 front (last ∷ []) ls [] (lined_next Tables 0 (map table_body ts ++ map counter_body cs) (map step_body as') ls [] (lined_next Tables 0 (map table_body ts) (map counter_body cs) ls [] t (quiet Tables counter_body (λ k x. refl) n cs) ∙ none) (quiet Tables step_body no_table n as') ∙ none) refl
       ∙ none
 
-  counter_lines_lem : family_lines w Counters ≡ counter_lines 0 cs
+  pub counter_lines_lem : family_lines w Counters ≡ counter_lines 0 cs
   unfolding body_line lined
   counter_lines_lem =
       let ls = counter_lines 0 cs in
@@ -292,15 +292,6 @@ module _ (ts : List Table) (cs : List Counter) (as' : List Answer) (changes : Bo
     unfolding record_lines
     record_lines_lem = walk_records w log all_sized (λ p ls. ls ++ (record_line ws p (end_of w ws p) ∷ [])) [] ∙ so_far (length log) (omega arith) ∙ rw (take-length log)
 
-    log_lines_lem : log_lines w ≡ lines_of log ++ (changed (flag changes) ∷ [])
+    pub log_lines_lem : log_lines w ≡ lines_of log ++ (changed (flag changes) ∷ [])
     unfolding log_lines
     log_lines_lem = rw (log_body_lem, record_lines_lem)
-
-    lines : answer_lines w ≡ step_lines 0 as' ++ lines_of log ++ changed (flag changes) ∷ table_lines 0 ts ++ counter_lines 0 cs
-    unfolding answer_lines
-    lines = rw (step_lines_lem, log_lines_lem, table_lines_lem, counter_lines_lem) (simp append_assoc)
-
--- the lines of an answer
-pub answer_lines_lem : (ts : List Table) (s : State) → All (Fits ts) s.log → answer_lines (answer ts s) ≡ step_lines 0 (reverse s.answers) ++ lines_of s.log ++ changed (flag s.changed) ∷ table_lines 0 ts ++ counter_lines 0 s.counters
-unfolding answer
-answer_lines_lem ts s fit = lines ts s.counters (reverse s.answers) s.changed s.log fit

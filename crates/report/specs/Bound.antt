@@ -1,5 +1,5 @@
 -- How long a text is: the lines of an answer have at most 11 bytes for each of its words, and the line of a refusal has 53 at most.
-use Rattle.std.specs.Prelude.{ℕ, zero, suc, ◌+◌, ◌*◌, ◌/◌, ◌%◌, ◌^◌, ◌<◌, ◌≤◌, ◌≡◌, refl, Bool, true, false, cond, List, [], ◌∷◌, ◌++◌, map, reverse, ltb, eqb, get_or, drop, set}
+use Rattle.std.specs.Prelude.{ℕ, zero, suc, ◌+◌, ◌*◌, ◌/◌, ◌%◌, ◌^◌, ◌<◌, ◌≤◌, ◌≡◌, refl, Bool, true, false, cond, List, [], ◌∷◌, ◌++◌, map, ltb, eqb, get_or, drop, set}
 use Rattle.std.proofs.Common.{ap, ◌∙◌, pow-suc, add-zero, lt-ltb, le-ltb, length-append, length-set}
 use Rattle.std.proofs.Math.Decide.{dec_lt}
 use native.Mathlib.Omega.{arith}
@@ -7,14 +7,12 @@ use Rattle.std.proofs.Math.ListN.{length}
 use Rattle.std.proofs.lemmas.List.Edits.{sets, sets-eq}
 use Rattle.model.specs.Basics.{join, how_many, All}
 use Rattle.model.specs.Book.Syntax.{Counter, next_of, Table}
-use Rattle.model.specs.Machine.State.{State, Record, Answer, survivors, predicted}
-use Rattle.model.specs.Answer.{Body, contents_from, lay_out, flag, table_body, counter_body, step_body, log_body, record_words, answer}
+use Rattle.model.specs.Machine.State.{Record, Answer, survivors, predicted}
+use Rattle.model.specs.Answer.{Body, contents_from, lay_out, flag, table_body, counter_body, step_body, log_body, record_words}
 use Rattle.model.specs.Printed.{Line, run, row, ins, del, changed, table, counter, refused, step_lines, record_line, record_lines, table_lines, counter_lines}
 use Rattle.model.specs.Laws.Logic.{All-left, All-right}
 use Rattle.report.specs.Text.{digits, field, fields, run_name, row_name, ins_name, del_name, changed_name, table_name, counter_name, refused_name, at_name, line_bytes, text, up_to, pushed, appended}
 use Rattle.report.specs.TextLaws.{text_append, text_one}
-use Rattle.report.specs.Lines.{answer_lines}
-use Rattle.report.specs.AnswerLines.{Fits, answer_lines_lem}
 
 -- ## A text that has room
 
@@ -195,7 +193,7 @@ module _ (ts : List Table) (cs : List Counter) (as' : List Answer) (changes : Bo
     unfolding lay_out
     all_small = small_bodies bodies (All-right Small (length bodies ∷ contents_from (1 + 3 * length bodies) bodies) (join (map (λ (b : Body). b.words) bodies)) h)
 
-    lines_short : length (text lines) ≤ 11 * length (lay_out bodies)
+    pub lines_short : length (text lines) ≤ 11 * length (lay_out bodies)
     unfolding line_bytes
     lines_short =
         let n = length_bodies in
@@ -217,8 +215,3 @@ module _ (ts : List Table) (cs : List Counter) (as' : List Answer) (changes : Bo
           length_text (changed (flag changes)) (table_lines 0 ts),
           short_named changed_name (flag changes ∷ []) (flag_small, tt),
         )
-
--- the lines of an answer have at most 11 bytes a word
-pub answer_short : (ts : List Table) (s : State) → All (Fits ts) s.log → All Small (answer ts s) → length (answer ts s) ≤ 10 ^ 10 → length (text (answer_lines (answer ts s))) ≤ 11 * length (answer ts s)
-unfolding answer
-answer_short ts s fit h few = rw (answer_lines_lem ts s fit) (lines_short ts s.counters (reverse s.answers) s.changed s.log h few)

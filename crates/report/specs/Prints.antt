@@ -1,5 +1,5 @@
--- The lines of any outcome that the engine may return for a book are those that the book prints, and how many bytes they have at most.
-use Rattle.std.specs.Prelude.{ℕ, zero, suc, ◌*◌, ◌^◌, ◌≤◌, ◌≡◌, refl, List, [], ◌∷◌}
+-- What an outcome's lines are, and what another arrangement of the tables' rows leaves as it was; `proofs/Prints` shows of any outcome that the engine may return that its lines are those that the book prints.
+use Rattle.std.specs.Prelude.{ℕ, zero, suc, ◌≤◌, ◌≡◌, refl, List, [], ◌∷◌}
 use Rattle.std.proofs.Common.{sym, ap, ◌∙◌, arith}
 use Rattle.std.proofs.Math.Option.{Option, none, some}
 use Rattle.std.proofs.Math.ListN.{length}
@@ -12,15 +12,13 @@ use Rattle.model.specs.Book.Read.{tables}
 use Rattle.model.specs.Machine.State.{Record, record_size}
 use Rattle.model.specs.Commit.{committed as committed_table, commit}
 use Rattle.model.specs.Answer.{Perm, same, keep, swap, both, Arranged, answer}
-use Rattle.model.specs.Outcome.{Lent, Outcome, refused, accepted, left, committed, refusal, outcome, Permitted}
+use Rattle.model.specs.Outcome.{Lent, Outcome, refused, accepted, left, committed, refusal, outcome}
 use Rattle.model.specs.Printed.{Line, refused as refused_line, table, table_lines, printed}
-use Rattle.model.specs.Laws.Logic.{All-map}
 use Rattle.model.specs.Laws.Lists.{length_tab}
 use Rattle.record_log.specs.RecordLaws.{Sized}
-use Rattle.report.specs.Text.{text}
 use Rattle.report.specs.Lines.{answer_lines}
-use Rattle.report.specs.AnswerLines.{Fits, answer_lines_lem}
-use Rattle.report.specs.Bound.{Small, refused_short, answer_short}
+use Rattle.report.specs.AnswerLines.{Fits}
+use Rattle.report.specs.Bound.{Small}
 
 abbrev pub outcome_lines : Outcome → List Line
 outcome_lines (refused r) = refused_line r.number r.place ∷ []
@@ -71,7 +69,7 @@ length_arranged [] (u ∷ us) h = absurd h
 length_arranged (x ∷ ts) [] h = absurd h
 length_arranged (x ∷ ts) (u ∷ us) h = ap suc (length_arranged ts us h.4)
 
-arranged_lines : (k : ℕ) (ts us : List Table) → Arranged ts us → table_lines k us ≡ table_lines k ts
+pub arranged_lines : (k : ℕ) (ts us : List Table) → Arranged ts us → table_lines k us ≡ table_lines k ts
 arranged_lines k [] [] h = refl
 arranged_lines k [] (u ∷ us) h = absurd h
 arranged_lines k (x ∷ ts) [] h = absurd h
@@ -79,14 +77,14 @@ arranged_lines k (x ∷ ts) (u ∷ us) h = rw (length_perm h.3) (ap (λ (l : Lis
 
 -- ## What is printed
 
-clash : {ws : List ℕ} {r : Refusal} → accepted ws ≡ refused r → ◌≡◌ {A = ℕ} 0 1
+pub clash : {ws : List ℕ} {r : Refusal} → accepted ws ≡ refused r → ◌≡◌ {A = ℕ} 0 1
 clash e = cc
 
-its : {q r : Refusal} → refused q ≡ refused r → r ≡ q
+pub its : {q r : Refusal} → refused q ≡ refused r → r ≡ q
 its e = cc
 
 module _ (l : Lent) (book : List ℕ) where
-  fits : (us : List Table) → Arranged (committed l book) us → (r : Record) → Sized (words_of book) r → Fits us r
+  pub fits : (us : List Table) → Arranged (committed l book) us → (r : Record) → Sized (words_of book) r → Fits us r
   unfolding tables
   fits us h r s =
       let log = (left l book).log in
@@ -97,44 +95,22 @@ module _ (l : Lent) (book : List ℕ) where
         size = s.size ∙ alike_size (commit_alike log ts 0 r.table) r.kind ∙ alike_size (arranged_alike (committed l book) us h r.table) r.kind;
       }
 
-  refused_printed : (r : Refusal) → refusal l book ≡ some r → refused_line r.number r.place ∷ [] ≡ printed l book
+  pub refused_printed : (r : Refusal) → refusal l book ≡ some r → refused_line r.number r.place ∷ [] ≡ printed l book
   unfolding printed
   refused_printed r e = rw e
 
-  accepted_printed : (us : List Table) → refusal l book ≡ none → Arranged (committed l book) us → All (Sized (words_of book)) (left l book).log → answer_lines (answer us (left l book)) ≡ printed l book
-  unfolding printed
-  accepted_printed us e h sized = rw e (answer_lines_lem us (left l book) (All-map (fits us h) (left l book).log sized) ∙ rw (arranged_lines 0 (committed l book) us h))
-
-  outcome_refused : (r : Refusal) → refusal l book ≡ some r → outcome l book ≡ refused r
+  pub outcome_refused : (r : Refusal) → refusal l book ≡ some r → outcome l book ≡ refused r
   unfolding outcome
   outcome_refused r e = rw e
 
-  outcome_accepted : refusal l book ≡ none → outcome l book ≡ accepted (answer (committed l book) (left l book))
+  pub outcome_accepted : refusal l book ≡ none → outcome l book ≡ accepted (answer (committed l book) (left l book))
   unfolding outcome
   outcome_accepted e = rw e
 
   -- an accepted book draws no refusal
-  unrefused : (ws : List ℕ) → outcome l book ≡ accepted ws → refusal l book ≡ none
+  pub unrefused : (ws : List ℕ) → outcome l book ≡ accepted ws → refusal l book ≡ none
   unrefused ws a = by (refusal l book) refl
     where
       by : (x : Option Refusal) → refusal l book ≡ x → refusal l book ≡ none
       by none e = e
       by (some q) e = let z : ◌≡◌ {A = ℕ} 0 1 = clash (sym a ∙ outcome_refused q e) in absurd (omega arith)
-
-  -- where the book is accepted, the log's records are as long as their tables ask
-  module _ (sized : refusal l book ≡ none → All (Sized (words_of book)) (left l book).log) where
-    pub permitted_lines : (o : Outcome) → Permitted l book o → outcome_lines o ≡ printed l book
-    permitted_lines (refused r) p = by (refusal l book) refl
-      where
-        by : (x : Option Refusal) → refusal l book ≡ x → refused_line r.number r.place ∷ [] ≡ printed l book
-        by none e = let z : ◌≡◌ {A = ℕ} 0 1 = clash (sym (outcome_accepted e) ∙ p) in absurd (omega arith)
-        by (some q) e = rw (its (sym (outcome_refused q e) ∙ p)) (refused_printed q e)
-    permitted_lines (accepted ws) p = let e = unrefused (answer (committed l book) (left l book)) p.3 in rw p.2 (accepted_printed p.0 e p.1 (sized e))
-
-    -- an answer of at most n words has lines of at most 11 n bytes; a refusal's line has 53 at most, which is no more from 5 words on
-    pub permitted_short : (n : ℕ) → 5 ≤ n → n ≤ 10 ^ 10 → (o : Outcome) → Permitted l book o → Narrow n o → length (text (outcome_lines o)) ≤ 11 * n
-    permitted_short n least most (refused r) p h = omega (arith, refused_short r.number r.place)
-    permitted_short n least most (accepted ws) p h =
-        let fit = All-map (fits p.0 p.1) (left l book).log (sized (unrefused (answer (committed l book) (left l book)) p.3)) in
-        let short = answer_short p.0 (left l book) fit (rw (← p.2) h.0) (rw (← p.2) (omega (arith, h.1))) in
-        rw p.2 (omega (arith, short, ap length p.2, h.1))

@@ -17,7 +17,8 @@ use Rattle.engine.specs.EngineLaws.{all_read}
 use Rattle.engine.specs.LogLaws.{log_sized}
 use Rattle.report.specs.Text.{text, Text, up_to, appended}
 use Rattle.report.specs.Bound.{Small, text_fits}
-use Rattle.report.specs.Prints.{Narrow, outcome_lines, permitted_lines, permitted_short}
+use Rattle.report.specs.Prints.{Narrow, outcome_lines}
+use Rattle.report.proofs.Prints.{permitted_lines, permitted_short}
 
 -- the lengths of the arrays that are lent
 abbrev pub lent : Lent
