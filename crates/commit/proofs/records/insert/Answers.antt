@@ -45,5 +45,8 @@ returns c =
     let if2 = c.if-word-eq1 in
     let put = c.put in
     let a = c.args in
-    let r = put.ensures in record { rows = rw (← word.ensures, eq-eqb _ _ if1.false, ← word2.ensures, ne_eqb _ _ if2.false)
-          (r.rows ∙ ap (λ (n : ℕ). put_row a.info (take n (drop (a.p + 2) a.log.now)) (record { words = a.rows.now; part = a.part })) (add-sub_cancel_left (a.p + 2) a.info.width)); index = r.index }
+    let r = put.ensures in record {
+      rows = rw (← word.ensures, eq-eqb _ _ if1.false, ← word2.ensures, ne_eqb _ _ if2.false)
+          (r.rows ∙ ap (λ (n : ℕ). put_row a.info (take n (drop (a.p + 2) a.log.now)) (record { words = a.rows.now; part = a.part })) (add-sub_cancel_left (a.p + 2) a.info.width));
+      index = r.index;
+    }
