@@ -1,3 +1,4 @@
+-- By the instruction: `Stands` there and `searchable` give what the arm's calls require, and what these ensure is `acted` of that instruction.
 use mathlib.Core.Path.{ap, ◌∙◌}
 use Rattle.lanes.specs.LaneLaws.{entry_fits_lem}
 use Rattle.execution.specs.Execution.{Logged}

@@ -1,3 +1,4 @@
+-- `act` ensures the lanes, and `bind_dst` the bindings by what `dst` gives, a variable (`binds_variable`); `finished` of both is `ran_instr`.
 use mathlib.Core.Path.{ap}
 use Rattle.instr.specs.Stands.{binds_of}
 use Rattle.instr.specs.StandsLaws.{binds_variable}

@@ -1,3 +1,4 @@
+-- After j turns p is the place of instruction j (`next_here`), and the batch and its memory are those after j (`iter_more`); at the end j is their number.
 use Prim.Native.Nat.{ℕ, ◌+◌, ◌<◌}
 use mathlib.Core.Path.{◌≡◌, refl, ap, ◌∙◌}
 use mathlib.Core.List.{List}

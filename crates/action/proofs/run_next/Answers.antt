@@ -1,3 +1,4 @@
+-- By the test, which is that of `ran_next`, as not empty is any live: if it holds, `run_instr` ensures the whole; if not, both sides are the batch as it was.
 use mathlib.Core.Path.{◌≡◌}
 use mathlib.Core.Bool.{true, false, ◌&&◌}
 use Rattle.model.specs.Machine.Steps.{any_live}

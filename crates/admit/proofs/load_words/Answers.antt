@@ -1,3 +1,4 @@
+-- `load` fills a front of as many words as the book has (`length_words`); with the rest as it was, that is the buffer asked for (`words_loaded`).
 use Rattle.admit.specs.BookLaws.{words_loaded}
 use Rattle.words.specs.Filled.{part_fits}
 use Rattle.model.specs.Laws.Words.{length_words}

@@ -1,3 +1,4 @@
+-- `total` is `whole_length` (`whole_sum`), and no addition overflows (`small`); by the test it is over and the words stay, or the rest is what `fill` ensures.
 use Rattle.answer.specs.AssembledLaws.{small, whole_sum}
 use Rattle.answer.specs.LayoutLaws.{small_sum}
 use Rattle.answer.specs.Layout.{left_by, body_count, entry_at, Small, whole_length, assembled, assembled_length}

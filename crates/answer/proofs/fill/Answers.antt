@@ -1,3 +1,4 @@
+-- `whole_parts` and `front_parts` say where each part stands, so each write has room; all writes, one after the other, leave the answer and zeros (`fill_is`).
 use Rattle.answer.specs.AssembledLaws.{whole_parts, front_parts, fill_is}
 use Rattle.answer.specs.Layout.{rows_length, table_words, results_of, body_count}
 use Rattle.step_bodies.specs.Runs.{runs}

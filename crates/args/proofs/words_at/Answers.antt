@@ -1,3 +1,4 @@
+-- After i turns the first i of the 16 are the words from `at` on, the rest 0 (`filled_turn`); at the end i is n, which is the count.
 use Prim.Native.Nat.{ℕ, ◌+◌}
 use mathlib.Core.Path.{◌≡◌, ap}
 use mathlib.Core.List.{List}

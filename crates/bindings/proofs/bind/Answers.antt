@@ -1,3 +1,4 @@
+-- The copied words are the first 256 of the column, the cleared ones the rest of its place; the two together are `bound` (`bound_front`).
 use Prim.Native.Nat.{ℕ, ◌*◌, ◌≤◌}
 use mathlib.Core.Path.{ap, ◌∙◌}
 use native.Mathlib.Omega.{arith}

@@ -1,3 +1,4 @@
+-- After i turns the first i words are the values of the first i entries, the rest as they were (`filled_turn`); at the end i is the count.
 use Prim.Native.Nat.{ℕ, ◌+◌, ◌*◌}
 use mathlib.Core.Path.{◌≡◌}
 use native.Mathlib.Omega.{arith}

@@ -1,3 +1,4 @@
+-- After c turns the first c columns are bound, and p is the word of the next (`loaded_turn`), which stands in the words since all v do (`column_fits`).
 use Rattle.bindings.specs.ColumnLaws.{rest_of, column_fits, loaded_turn}
 use Rattle.bindings.specs.Columns.{bound, loaded}
 use lib.ListN.{take, length}

@@ -1,3 +1,4 @@
+-- By whether both words of the entry stand in the book, then by its tag; a word past the end is 0, so a variable is variable 0 and a constant is 0.
 use Prim.Native.Nat.{◌+◌}
 use native.Mathlib.Omega.{arith}
 use lib.ListN.{get_or-eq_default}

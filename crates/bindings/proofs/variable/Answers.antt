@@ -1,3 +1,4 @@
+-- By the test: `word` reads word 256 v + lane, or 0 past the end; a lane that is no less than the length makes that word one past the end.
 use Prim.Native.Nat.{ℕ, ◌+◌, ◌*◌}
 use mathlib.Core.Path.{sym, ap, ◌∙◌}
 use native.Mathlib.Omega.{arith}

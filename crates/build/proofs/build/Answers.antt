@@ -1,3 +1,4 @@
+-- After k turns b is the start with k write values more (`iter_more`); at the end k is the count, and the row has 16 words at most (`built_fits`).
 use mathlib.Core.Path.{◌≡◌, refl}
 use native.Mathlib.Omega.{arith}
 use Rattle.build.specs.Build.{built}

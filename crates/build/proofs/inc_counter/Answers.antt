@@ -1,3 +1,4 @@
+-- By what `inc` drew, which its contract equates with the model's `draw`: a number and the counters after it are the first case of `handed`, none the other.
 use Prim.Native.Nat.{ℕ}
 use mathlib.Core.List.{List}
 use mathlib.Core.Path.{sym, ap, ◌∙◌}

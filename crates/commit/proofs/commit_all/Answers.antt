@@ -1,3 +1,4 @@
+-- After t turns the rows and `gone` are those after t tables (`iter_more`), and the used words are within the rows (`table_fits`); at the end t is `tables`.
 use mathlib.Core.Path.{◌≡◌, refl, sym, ap, ◌∙◌}
 use mathlib.Core.Bool.{false}
 use native.Mathlib.Omega.{arith}

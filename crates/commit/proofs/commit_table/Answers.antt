@@ -1,3 +1,4 @@
+-- `keep` leaves `kept` of the rows begun (`old_is`), `insert_rows` leaves `inserted` of that (`all_is`), and the fields that are set make `ended` of it.
 use mathlib.Core.Path.{◌≡◌, sym, ap, ◌∙◌, subst}
 use native.Mathlib.Omega.{arith}
 use lib.ListN.{length}

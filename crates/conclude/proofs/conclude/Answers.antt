@@ -1,3 +1,4 @@
+-- By why the run ended, each case by `concluded_by`: going, it is what `settle` ensures; spent or full, the place is the step's entry (`first_step_is`).
 use mathlib.Core.Path.{◌∙◌}
 use native.Mathlib.Omega.{arith}
 use Rattle.model.specs.Laws.Book.{few_tables, few_counters, few_rules}

@@ -1,3 +1,4 @@
+-- By whether a row had no room: refusal 15 (`settled_over`); or `enough_here` gives what `assemble` requires, and what it leaves is `settled_answer`.
 use mathlib.Core.Path.{sym, ◌∙◌}
 use native.Mathlib.Omega.{arith}
 use lib.Seq.{length-take-le}

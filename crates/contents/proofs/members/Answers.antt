@@ -1,3 +1,4 @@
+-- After i turns c is how many of the first i are of group g: one more if the next is (`count_yes`), else the same (`count_no`); at the end i is n.
 use mathlib.Core.Path.{◌≡◌, sym, ap, ◌∙◌}
 use native.Mathlib.Omega.{arith}
 use Rattle.model.specs.Book.Contents.{group}

@@ -1,3 +1,4 @@
+-- After c turns the first c words are counters, the rest 0 (`filled_turn`); at the end c is their number, and that is the padded list (`counters_filled`).
 use mathlib.Core.Path.{◌≡◌, ap, ◌∙◌}
 use Prim.Native.Nat.{ℕ, ◌+◌}
 use lib.ListN.{get_or, replicate, length-set, length-replicate}

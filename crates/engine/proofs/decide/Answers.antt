@@ -1,3 +1,4 @@
+-- By the tests: wrong lengths are refusal 14 (`decided_14`), refused bytes are `decided_book`; past both, `true_fit` gives what `decide_book` requires.
 use lib.ListN.{length}
 use mathlib.Core.Path.{sym, ap, ◌∙◌}
 use Rattle.rules.specs.Rules.{verdict_of}

@@ -1,3 +1,4 @@
+-- The words fit the array: 4096 bytes are at most 1024 words (`length_words`), a book that refusal 1 passes at most 16384 (`words_most`); the rest is as given.
 use Prim.Native.Nat.{ℕ, ◌≤◌}
 use native.Mathlib.Omega.{arith}
 use lib.ListN.{length, replicate, length-replicate}

@@ -1,3 +1,4 @@
+-- The first n words are the book's (`front_is`); by the verdict: a pass may run (`front_runnable`) and is `front_decided`, a refusal is `front_refused`.
 use Prim.Native.Nat.{ℕ}
 use mathlib.Core.Path.{sym, ap, ◌∙◌}
 use native.Mathlib.Omega.{arith}

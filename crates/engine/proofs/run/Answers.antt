@@ -1,3 +1,4 @@
+-- `decide` gets zeros (`zeroed`), as many as were lent (`lent_same`), so its outcome is permitted (`left_permitted`); the last clears leave zeros (`zeros_as`).
 use lib.ListN.{length}
 use mathlib.Core.Path.{refl, ◌∙◌}
 use Rattle.engine.specs.Engine.{lent_of}

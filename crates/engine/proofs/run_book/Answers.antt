@@ -1,3 +1,4 @@
+-- The run is one from the start and from zeros, so `conclude` may go on from it (`may_conclude`), and what that ensures is `Concludes` (`book_concludes`).
 use Prim.Native.Nat.{ℕ}
 use mathlib.Core.Path.{ap, ◌∙◌}
 use native.Mathlib.Omega.{arith}

@@ -1,3 +1,4 @@
+-- By whether the lane is live and the run goes on, then by the change: these are the cases of `staged_lane`, and what is staged is the list that was fetched.
 use mathlib.Core.Path.{ap}
 use native.Mathlib.Omega.{arith}
 use Rattle.args.specs.declared.Args.{Args}

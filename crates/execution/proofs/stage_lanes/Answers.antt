@@ -1,3 +1,4 @@
+-- After i turns state and log are those after i lanes (`iter_more`); past the last live lane no turn changes them, so that is all 256 (`live_turns`).
 use mathlib.Core.Path.{refl}
 use mathlib.Core.Bool.{false}
 use native.Mathlib.Omega.{arith}

@@ -1,3 +1,4 @@
+-- By the length of the arguments against the arity, then by the number: each arm is the line of `apply` for it, its words read from the front.
 use Prim.Native.Nat.{ℕ, ◌-◌}
 use mathlib.Core.Path.{◌≡◌, refl, ◌∙◌, sym}
 use mathlib.Core.Logic.{◌≢◌}

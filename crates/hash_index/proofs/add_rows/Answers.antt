@@ -1,3 +1,4 @@
+-- After i turns i rows are added and `at` is the word of row i (`iter_more`); each tail is one of the rows so far, as `add` requires (`tails_more`).
 use Rattle.std.proofs.Common.{◌≡◌, ℕ, ◌+◌, sym, refl, ap, ◌∙◌, add-zero, arith, rules}
 use Rattle.model.specs.Laws.Iter.{iter_more}
 use Rattle.tables.specs.TablesLaws.{next_row, row_within}

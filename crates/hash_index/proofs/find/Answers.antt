@@ -1,3 +1,4 @@
+-- No row before the one that p tells has the key (`standing`); if that row has it, it is the first (`first_row`), and where p is 0 none has (`none_left`).
 use Rattle.std.proofs.Common.{sym, ap, ◌∙◌, arith}
 use Rattle.tables.specs.declared.Found.TheVariants.{At}
 use Rattle.tables.specs.TablesLaws.{found_nothing}

@@ -1,3 +1,4 @@
+-- After i turns h is the first i words folded (`folded_more`); at the end i is k, and the high 10 bits of what is folded are below 1024 (`home_below`).
 use Rattle.std.proofs.Common.{◌≡◌, ℕ, ◌+◌, ◌/◌, get_or, ap, ◌∙◌, arith, rules}
 use Rattle.model.specs.Basics.{tab}
 use Rattle.hash_index.specs.Fold.{folded}

@@ -1,3 +1,4 @@
+-- By the tests, which are the first two conditions of `is_row`; past them `place` gives a row that stands in the words, and `same_words` is the third.
 use Rattle.std.proofs.Common.{◌-◌, arith, le-ltb, lt-ltb, le-leb}
 use borrow.Author.Tests.{lt-leb}
 use Rattle.tables.specs.TablesLaws.{row_within}

@@ -1,3 +1,4 @@
+-- In each arm the opcode is known, so that the definition's line computes.
 use mathlib.Core.Path.{refl}
 use Rattle.instr.specs.InstrLaws.{instr_arm, instr_rest}
 use Rattle.instr.proofs.instr_of.Goals as goal

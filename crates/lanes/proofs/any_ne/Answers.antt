@@ -1,3 +1,4 @@
+-- After k pairs the answer is that of what is left of both sides; a pair that differs ends it (`pair_differs`), and so does the shorter side (`no_more_pairs`).
 use Prim.Native.Nat.{min}
 use mathlib.Core.Path.{◌≡◌, refl, sym, ◌∙◌}
 use native.Mathlib.Omega.{arith}

@@ -1,3 +1,4 @@
+-- After i lanes the marks of those lanes are kept where the entries agree as asked (`kept_turn`); past the last live lane no mark would change (`kept_all`).
 use native.Mathlib.Omega.{arith}
 use Rattle.lanes.specs.PassLaws.{kept_none, kept_turn, kept_all}
 use borrow.Author.Rules.{rules}

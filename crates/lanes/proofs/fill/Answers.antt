@@ -1,3 +1,4 @@
+-- By what is asked: the pass of each kind leaves what `Fills` says of it, and that is what is answered to the lanes, mark and word.
 use Rattle.lanes.specs.Lanes.{asked}
 use Rattle.lanes.proofs.fill.Goals as goal
 

@@ -1,3 +1,4 @@
+-- After i lanes each live one of them has its word, and the mask is as it was (`answered_still`); past the last live lane nothing is left (`answered_all`).
 use mathlib.Core.Path.{refl, ◌∙◌}
 use native.Mathlib.Omega.{arith}
 use Rattle.lanes.specs.PassLaws.{answered_none, answered_still, answered_all}

@@ -1,3 +1,4 @@
+-- After i lanes those that were answered have word and mark (`answered_turn`); past the last live lane nothing is left (`answered_all`).
 use mathlib.Core.Path.{◌∙◌}
 use native.Mathlib.Omega.{arith}
 use Rattle.lanes.specs.PassLaws.{answered_none, answered_turn, answered_all}

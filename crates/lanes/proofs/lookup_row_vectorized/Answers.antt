@@ -1,3 +1,4 @@
+-- After i lanes those whose key has a row have word and mark (`answered_turn`); past the last live lane nothing is left (`answered_all`).
 use native.Mathlib.Omega.{arith}
 use Rattle.lanes.specs.PassLaws.{answered_none, answered_turn, answered_all}
 use borrow.Author.Rules.{rules}

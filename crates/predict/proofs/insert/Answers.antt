@@ -1,3 +1,4 @@
+-- By the tests, those of `inserted` by the contracts of `build` and `stage`: spent; going, and the slot is written; or not going, and stopped by its own stop.
 use native.Mathlib.Omega.{arith}
 use Rattle.predict.specs.Predict.{inserted}
 use Rattle.predict.proofs.insert.Goals as goal

@@ -1,3 +1,4 @@
+-- By what `look_up_among` ensures, as `answered` goes: a row leaves all as it was; if there is none, the whole is `noted` of what `get_or_insert_with` ensures.
 use mathlib.Core.Path.{ap}
 use Rattle.predict.specs.Predict.{Gotten, noted, answered}
 use Rattle.predict.proofs.predict_val.Goals as goal

@@ -1,3 +1,4 @@
+-- By the two tests, those of `served_lane`: if the first fails, all is as it was; if the second does, `out` is; if both hold, `take` ensures `out`.
 use mathlib.Core.Path.{ap}
 use native.Mathlib.Omega.{arith}
 use Rattle.args.specs.declared.Args.{Args}

@@ -1,3 +1,4 @@
+-- After i turns state and memory are those after i lanes (`iter_more`); at the end i is `end`, past which no lane is live and none changes them (`live_turns`).
 use mathlib.Core.Path.{◌≡◌, refl, ◌∙◌}
 use mathlib.Core.Bool.{false}
 use native.Mathlib.Omega.{arith}

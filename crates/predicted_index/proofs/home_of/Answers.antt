@@ -1,3 +1,4 @@
+-- After i turns h is table and first i words folded (`folded_more`); at the end i is k, and the high 13 bits of what is folded are below 8192 (`home_below`).
 use Prim.Native.Nat.{ℕ, ◌/◌}
 use mathlib.Core.Path.{◌≡◌, ap, ◌∙◌}
 use native.Mathlib.Omega.{arith}

@@ -1,3 +1,4 @@
+-- After j turns the answer is that of 8192 - j slots from s on; a slot that is free or hit decides it, another leaves it (`probe_on`); no slot left is `Full`.
 use mathlib.Core.Path.{sym, ap, ◌∙◌}
 use Prim.Native.Nat.{ℕ, ◌-◌}
 use native.Mathlib.Nat.{sub-zero}

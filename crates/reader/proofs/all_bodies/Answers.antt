@@ -1,3 +1,4 @@
+-- No body before i is refused (`below_more`); if body i is, it is the first (`bodies_refused`); at the end i is the count, and none is (`bodies_pass`).
 use mathlib.Core.Path.{◌≡◌, sym, ap, ◌∙◌}
 use native.Mathlib.Omega.{arith}
 use borrow.Author.Count.{below_more}

@@ -1,3 +1,4 @@
+-- By the tests in order, a law for each: a bad walk (`body_bad`), 6 (`body_six`), 4 (`body_four`), a table's rows (`body_rows`), or none (`body_pass`).
 use mathlib.Core.Path.{sym, ap, ◌∙◌}
 use native.Mathlib.Omega.{arith}
 use Rattle.reader.specs.ReadLaws.{few, body_bad, body_six, body_four, body_rows, body_pass, table_at_lem}

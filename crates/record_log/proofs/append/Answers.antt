@@ -1,3 +1,4 @@
+-- By the test: without room nothing is written (`no_room`); with room the stores of kind, table and row are one store of the record (`store_record`).
 use Prim.Native.Nat.{◌+◌}
 use mathlib.Core.Path.{◌≡◌, ap, ◌∙◌}
 use lib.ListN.{length, length-set}

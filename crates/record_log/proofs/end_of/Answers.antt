@@ -1,3 +1,4 @@
+-- By the kind: each arm is the case of `end_of`; its sum does not overflow, since a table's keys and width are a word of the book and a sum of two.
 use Prim.Native.Nat.{◌+◌}
 use mathlib.Core.Path.{ap}
 use native.Mathlib.Omega.{arith}

@@ -1,3 +1,4 @@
+-- After i turns the first i words of the row stand from `at` on, and all else is as it was (`store_more`); at the end i is the count.
 use Prim.Native.Nat.{◌+◌, ℕ}
 use mathlib.Core.Path.{◌≡◌, ap, ◌∙◌}
 use mathlib.Core.List.{List}

@@ -1,3 +1,4 @@
+-- By whether a rule is refused: then that is the whole (`else_stop`); if none is, the whole is what `fit_steps` ensures (`else_on`).
 use mathlib.Core.Path.{sym, ◌∙◌}
 use Rattle.model.specs.Book.Read.{steps_refusal}
 use Rattle.model.specs.Outcome.{rules_refusal}

@@ -1,3 +1,4 @@
+-- The first j instructions pass, p is the next one's place (`next_here`), `bound` what it may read (`bound_here`); one refused is `rule_stop`, none `rule_end`.
 use Prim.Native.Nat.{ℕ, ◌+◌}
 use mathlib.Core.Path.{refl, ◌≡◌, sym, ap, ◌∙◌}
 use native.Mathlib.Omega.{arith}
@@ -79,7 +80,7 @@ next-p-requires c = small_here (here (goal.at.next-p-requires c).After-instr_at-
 
 pub loop-j-preserved : goal.loop-j-preserved
 loop-j-preserved c =
-    let instr_at_lem = c.instr_at-i in
+    let read-i = c.instr_at-i in
     let check-instr = c.check_instr-c in
     let l = c.loop-j in
     let x = here (goal.at.loop-j-preserved c).After-instr_at-i in (
@@ -87,7 +88,7 @@ loop-j-preserved c =
       search rules,
       c.next-p.ensures ∙ next_here x,
       ap has c.bind_dst-bound.ensures ∙ bound_here x l.bound l.invariant.3 l.invariant.4,
-      rw c.bind_dst-bound.ensures (length_binding (binds_of instr_at_lem.result) l.bound l.invariant.4),
+      rw c.bind_dst-bound.ensures (length_binding (binds_of read-i.result) l.bound l.invariant.4),
       below_more _ _ l.invariant.5 (rule_on x l.bound l.invariant.3 check-instr.result check-instr.ensures (sym c.is_refusal.ensures ∙ c.if-is_refusal.false)),
     )
 

@@ -1,3 +1,4 @@
+-- The first r rules pass (`below_more`); if the next is refused, it is the first (`rules_stop`); at the end r is their number, and all pass (`rules_end`).
 use mathlib.Core.Path.{◌≡◌, sym, ◌∙◌}
 use native.Mathlib.Omega.{arith}
 use borrow.Author.Count.{below_more}

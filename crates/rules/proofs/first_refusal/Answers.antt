@@ -1,3 +1,4 @@
+-- By the reading: what it refuses is the whole (`words_stop`); if it passes, the words are readable (`none_read`), and `check_book` is the whole (`words_on`).
 use mathlib.Core.Path.{sym, ap, ◌∙◌}
 use Rattle.reader.specs.Reading.{refusal_of}
 use Rattle.rules.specs.RuleLaws.{words_stop, none_read, words_on}

@@ -1,3 +1,4 @@
+-- The first k steps fit (`below_more`); if the next does not, it is the first (`steps_stop`); at the end k is their number, and all fit (`steps_end`).
 use mathlib.Core.Path.{◌≡◌, sym, ◌∙◌}
 use native.Mathlib.Omega.{arith}
 use borrow.Author.Count.{below_more}

@@ -1,3 +1,4 @@
+-- By whether the run goes on: the body is put (`batch_answered`), at most 8483 words of at most 256 lanes (`batch_most`); or it halts (`batch_stopped`).
 use Prim.Native.Nat.{ℕ, ◌+◌, ◌≤◌}
 use mathlib.Core.Path.{sym, ap, subst, ◌∙◌}
 use native.Mathlib.Omega.{arith}

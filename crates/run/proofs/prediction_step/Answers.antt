@@ -1,3 +1,4 @@
+-- By whether the run goes on: the body is put (`row_answered_lem`), at most 17 words, as a row has 16 at most (`row_most`); or it halts (`row_stopped`).
 use Prim.Native.Nat.{ℕ, ◌+◌, ◌≤◌}
 use mathlib.Core.Path.{sym, ap, subst, ◌∙◌}
 use mathlib.Core.List.{List}

@@ -1,3 +1,4 @@
+-- After k turns all is as k of `ran_next` leave it (`iter_more`), with at most k steps done and 8483 k body words; at the end k is the step count, 64 at most.
 use Prim.Native.Nat.{◌<◌}
 use mathlib.Core.Path.{◌≡◌, refl, ◌∙◌}
 use native.Mathlib.Omega.{arith}

@@ -1,3 +1,4 @@
+-- `contents` has the book's number of tables, and each stands (`table_stands`), so the words built are a `BookIndex`; `run_by` then ensures the whole.
 use mathlib.Core.Path.{refl, ap, ◌∙◌}
 use mathlib.Core.Logic.{inr}
 use native.Mathlib.Omega.{arith}

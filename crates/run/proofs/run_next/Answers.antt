@@ -1,3 +1,4 @@
+-- By state and kind: a run that stopped stays (`next_stopped`), 4 is `next_batch`, and any other kind is 5 (`not_batch`) and so `next_prediction`.
 use mathlib.Core.Path.{◌≡◌, sym, ap, ◌∙◌}
 use native.Mathlib.Omega.{arith}
 use Rattle.model.specs.Book.Contents.{kind_of}

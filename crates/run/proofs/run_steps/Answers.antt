@@ -1,3 +1,4 @@
+-- By the test: the rows are few enough to index (`serves_few`), or the index is empty, as `BookIndex` allows; either call ensures the same.
 use mathlib.Core.Path.{refl, sym, ◌∙◌}
 use mathlib.Core.Logic.{inl}
 use native.Mathlib.Omega.{arith}

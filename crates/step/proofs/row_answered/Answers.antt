@@ -1,3 +1,4 @@
+-- By the calls' contracts table and key are those of `row_answered`, so `row_of` gives it; that the table may be searched is `table_here`.
 use mathlib.Core.Path.{◌∙◌}
 use native.Mathlib.Omega.{arith}
 use Rattle.step.specs.Steps.{row_answered}

@@ -1,3 +1,4 @@
+-- The numbers read, zeroed and loaded bindings (`columns_within`), first variables and full mask are where `ran_batch` starts; the rest is `run_instrs`.
 use Prim.Native.Nat.{ℕ}
 use mathlib.Core.Path.{◌≡◌, ap, ◌∙◌}
 use mathlib.Core.Bool.{Bool}

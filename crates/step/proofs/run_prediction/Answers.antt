@@ -1,3 +1,4 @@
+-- By the calls' contracts row and key are those of `asked_row`, so `predict_val` gives it; `table_here`, `writes_short`, `prediction_facts` let it be called.
 use mathlib.Core.Path.{◌∙◌}
 use native.Mathlib.Omega.{arith}
 use Rattle.args.specs.Args.{words_at}
@@ -30,9 +31,9 @@ returns c =
     let word = c.word in
     let size = c.size-n in
     let word2 = c.word-2 in
-    let list_at_lem = c.list_at in
+    let listed = c.list_at in
     let key-asked = c.key_asked in
     let first = first_of.ensures.0 in
     let n = size.ensures.0 ∙ word.ensures in
     let r = c.predict_val in
-    record { is = r.ensures.is ∙ rw (c.of.ensures, key-asked.ensures, list_at_lem.ensures.is, word2.ensures, n, first); fits = r.ensures.fits }
+    record { is = r.ensures.is ∙ rw (c.of.ensures, key-asked.ensures, listed.ensures.is, word2.ensures, n, first); fits = r.ensures.fits }

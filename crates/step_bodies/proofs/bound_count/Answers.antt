@@ -1,3 +1,4 @@
+-- After v turns n is how many of the first v variables are bound (`iter_more`), which is v at most (`how_many_le`); at the end v is 32.
 use native.Mathlib.Numerals.{add-one}
 use mathlib.Core.Path.{◌∙◌, ◌≡◌}
 use Prim.Native.Nat.{ℕ, suc}

@@ -1,3 +1,4 @@
+-- `end` is `at` plus the body's length (`length_batch`); without room nothing is written (`placed_not`), else the stores are one store of it (`put_three`).
 use native.Mathlib.Nat.{le_trans, le-add_right}
 use Rattle.step_bodies.specs.Runs.{runs, put_three}
 use Rattle.mask.specs.Masks.{count}

@@ -1,3 +1,4 @@
+-- After v turns the words of the first v variables stand from `start` on, and `at` is past them (`put_more`, `end_more`); the next have room (`put_fits`).
 use mathlib.Core.List.{List}
 use Rattle.step_bodies.specs.Steps.{column_words}
 use Rattle.step_bodies.specs.Runs.{put_none, end_none, put_more, end_more, put_fits}

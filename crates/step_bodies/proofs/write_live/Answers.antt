@@ -1,3 +1,4 @@
+-- After i turns the flags of the first i lanes stand from `at` on, and all else is as it was (`store_more`); at the end i is `lanes`.
 use Rattle.record_log.specs.LogLaws.{store_more}
 use Rattle.model.specs.Answer.{flag}
 use Rattle.model.specs.Basics.{tab}

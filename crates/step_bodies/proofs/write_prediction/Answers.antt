@@ -1,3 +1,4 @@
+-- By the test: without room nothing is written (`placed_not`); with room flag and row, stored one after the other, are one store (`put_cons`, `placed_fits`).
 use Rattle.model.specs.Answer.{flag}
 use Rattle.step_bodies.specs.StepLaws.{placed_fits, placed_not}
 use Rattle.step_bodies.specs.Steps.{prediction_words}

@@ -1,3 +1,4 @@
+-- After i turns `at` is the word of row i, and no row before it has the key; a row that has it is the first (`found_at`), else none has (`found_nothing`).
 use Rattle.tables.specs.declared.Found.TheVariants.{At}
 use mathlib.Core.Path.{◌≡◌, sym, ap, ◌∙◌}
 use native.Mathlib.Omega.{arith}

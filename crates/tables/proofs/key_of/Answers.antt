@@ -1,3 +1,4 @@
+-- After i turns the first i of the 16 are the first i words of the row, the rest 0 (`filled_turn`); at the end i is k.
 use mathlib.Core.Path.{refl, ◌≡◌}
 use native.Mathlib.Omega.{arith}
 use lib.ListN.{get_or, replicate}

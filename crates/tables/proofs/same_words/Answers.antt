@@ -1,3 +1,4 @@
+-- The first i words are the key's; one that is not decides (`same_not`), and at the end i is k, so all are (`same_all`).
 use mathlib.Core.Path.{◌≡◌, sym}
 use native.Mathlib.Omega.{arith}
 use borrow.Author.Count.{below_more}

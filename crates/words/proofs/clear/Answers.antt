@@ -1,3 +1,4 @@
+-- After i turns the first i words are 0, the rest as they were (`fill_more`); at the end i is the length, and there is no rest.
 use mathlib.Core.Path.{◌≡◌, ap, ◌∙◌}
 use mathlib.Core.List.{List, ◌++◌, append-nil}
 use Prim.Native.Nat.{ℕ}

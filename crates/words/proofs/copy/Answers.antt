@@ -1,3 +1,4 @@
+-- After i turns the first i words of `src` stand from `at` on, and all else is as it was (`paste-suc`); at the end i is the length of `src`.
 use mathlib.Core.Path.{◌≡◌, ap, ◌∙◌}
 use mathlib.Core.List.{List}
 use Prim.Native.Nat.{ℕ, ◌+◌}

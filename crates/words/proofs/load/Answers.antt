@@ -1,3 +1,4 @@
+-- After i turns the first i words are those of the bytes, the rest as they were (`filled_turn`); at the end i is the length, and there is no rest.
 use Rattle.words.specs.Filled.{filled_turn}
 use mathlib.Core.Path.{◌≡◌, ap, ◌∙◌}
 use Prim.Native.Nat.{ℕ}

@@ -1,3 +1,4 @@
+-- By how many words there are from `at` on: none, and the part is empty; n at most, and it is all of them (`take_all`); more, and it is the first n.
 use mathlib.Core.Path.{sym, ap, ◌∙◌}
 use Prim.Native.Nat.{ℕ, ◌-◌}
 use native.Mathlib.Nat.{add-sub_cancel_left}

@@ -1,3 +1,4 @@
+-- The first i words are the same; one that differs is against the claim that all are, and at the end i is the length, so the claim holds.
 use mathlib.Core.Bool.{false≢true}
 use native.Mathlib.Omega.{arith}
 use mathlib.Core.Path.{refl, sym, ◌∙◌}

@@ -1,3 +1,4 @@
+-- By the test: i is below the count of whole words (`length_words`), and the word read is that word (`get_or_words`); or it is not, and both sides are 0.
 use Prim.Native.Nat.{◌<◌, ◌≤◌}
 use mathlib.Core.Path.{sym, ◌∙◌}
 use native.Mathlib.Omega.{arith}

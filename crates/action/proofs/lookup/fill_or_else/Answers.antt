@@ -1,3 +1,4 @@
+-- The contracts of both fills and of `difference`, one in the other, are `either_words`, and with that of `union` `either_lanes`; `out` keeps its length.
 use mathlib.Core.Path.{◌∙◌}
 use Rattle.action.proofs.lookup.fill_or_else.Goals as goal
 

@@ -1,3 +1,4 @@
+-- `fill` and `difference` ensure the words and the lanes that `serving` begins with; from these `serve_lanes` ensures what `serving` puts into the lanes.
 use mathlib.Core.Path.{ap, ◌∙◌}
 use Rattle.predict.specs.Predict.{Served}
 use Rattle.action.specs.Act.{Lanes, with_served}

@@ -1,3 +1,4 @@
+-- After i turns the last i of the n words stand d words further on, all else as it was (`moved_turn`); at the end i is n, and all n are moved (`moved_all`).
 use Rattle.answer.specs.Moved.{moved_none, moved_turn, moved_all}
 use native.Mathlib.Omega.{arith}
 use mathlib.Core.Path.{◌≡◌, ◌∙◌}

@@ -1,3 +1,4 @@
+-- The four words set and the rows past them are `table_words`, put from `at` on (`put_four`); that they all fit is `room`.
 use Rattle.answer.specs.Layout.{rows_length}
 use Rattle.step_bodies.specs.Runs.{put_four}
 use Rattle.model.specs.Laws.Bodies.{length_part}
@@ -32,10 +33,10 @@ bounds-answer-at-4 c = simp length-set (omega (arith, room (goal.at.bounds-answe
 pub write-requires : goal.write-requires
 write-requires c =
     let pre = c.requires in
-    let rows_length_lem = c.rows_length-n in
+    let count = c.rows_length-n in
     let a = c.args in
-    let n = rows_length_lem.result in
-    simp length-set (omega (arith, room (goal.at.write-requires c).After-rows_length-n, length_part a.rows.now a.from (a.from + n - a.from) (omega (arith, rows_length_lem.ensures, pre.2))))
+    let n = count.result in
+    simp length-set (omega (arith, room (goal.at.write-requires c).After-rows_length-n, length_part a.rows.now a.from (a.from + n - a.from) (omega (arith, count.ensures, pre.2))))
 
 pub shape_of-answer : goal.shape_of-answer
 shape_of-answer c = c.write.auto.answer ∙ simp length-set
@@ -43,7 +44,7 @@ shape_of-answer c = c.write.auto.answer ∙ simp length-set
 pub returns : goal.returns
 returns c =
     let first_of = c.first_of-body in
-    let rows_length_lem = c.rows_length-n in
+    let count = c.rows_length-n in
     let word = c.word in
     let word2 = c.word-2 in
     let word3 = c.word-3 in
@@ -51,4 +52,4 @@ returns c =
     let a = c.args in
     let w = c.write.ensures in
     let e = add-sub_cancel_left a.from (rows_length a.words.now a.counts.now a.table.0) in
-    let f = first_of.ensures.0 in record { words = w.words ∙ rw (rows_length_lem.ensures, e, word.ensures, word2.ensures, word3.ensures, word4.ensures, f) (put_four _ _ _ _ (part a.rows.now a.from (rows_length a.words.now a.counts.now a.table.0)) a.answer.now a.at); end = w.end ∙ rw (rows_length_lem.ensures, e) (omega arith) }
+    let f = first_of.ensures.0 in record { words = w.words ∙ rw (count.ensures, e, word.ensures, word2.ensures, word3.ensures, word4.ensures, f) (put_four _ _ _ _ (part a.rows.now a.from (rows_length a.words.now a.counts.now a.table.0)) a.answer.now a.at); end = w.end ∙ rw (count.ensures, e) (omega arith) }

@@ -1,3 +1,4 @@
+-- After t turns t tables stand from `start` on (`put_more`), `at` is past them (`end_more`), `from` past their rows (`sum_turn`); at the end t is n.
 use Rattle.answer.specs.Layout.{rows_length, table_words}
 use Rattle.step_bodies.specs.Runs.{put_none, end_none, put_more, end_more, put_fits}
 use Rattle.answer.specs.Sums.{sum, sum_none, sum_turn, sum_fits}

@@ -1,3 +1,4 @@
+-- By the three tests of i, which are those of `entry_at`; past them each side is rewritten to the other by the calls' contracts; rows fit by `small_rows`.
 use Rattle.answer.specs.LayoutLaws.{small_rows}
 use Rattle.answer.specs.Layout.{entry_at}
 use borrow.Author.Tests.{lt-ltb, le-ltb}

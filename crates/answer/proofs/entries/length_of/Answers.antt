@@ -1,3 +1,4 @@
+-- After i turns s is the sum of the first i lengths (`sum_turn`), and no addition overflows (`small_entry`); at the end i is n.
 use Rattle.answer.specs.LayoutLaws.{small_entry}
 use Rattle.answer.specs.Layout.{entry_at}
 use Rattle.answer.specs.Sums.{sum_none, sum_turn}

@@ -1,3 +1,4 @@
+-- By the calls' contracts both factors are those of `rows_length`; so the product is it, which the requirement keeps at 16384 or less: no overflow.
 use native.Mathlib.Omega.{arith}
 use Prim.Native.Nat.{◌*◌, ◌≤◌}
 use Rattle.answer.proofs.entries.rows_length.Goals as goal

@@ -1,3 +1,4 @@
+-- After i turns i entries stand from word 1 on (`put_more`), 3 words each (`length_entries`), and `first` is the next body's word; at the end i is n.
 use Rattle.answer.specs.LayoutLaws.{small_entry, length_entries}
 use Rattle.answer.specs.Layout.{entry_at, entry_words}
 use Rattle.step_bodies.specs.Runs.{put_none, put_more}

@@ -1,3 +1,4 @@
+-- After v turns the first v marks say whether they are below n, the rest false (`filled_turn`); at the end v is 32, and all are replaced (`filled_all`).
 use Prim.Native.Nat.{ℕ}
 use mathlib.Core.Bool.{Bool, false}
 use mathlib.Core.List.{List}

@@ -1,3 +1,4 @@
+-- What `build` leaves is the index of the rows as they stand (`of_index`), which is what `insert_all` requires; its contract is the one to prove.
 use mathlib.Core.Path.{◌≡◌, refl, sym, ap, ◌∙◌, subst}
 use lib.ListN.{length}
 use native.Mathlib.Omega.{arith}

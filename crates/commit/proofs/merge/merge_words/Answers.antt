@@ -1,3 +1,4 @@
+-- After i turns the first i words are merged and the others old, so a turn reads an old word (`merge_turn`); all of them are the model's (`merge_all`).
 use Prim.Native.Nat.{ℕ}
 use mathlib.Core.Path.{◌≡◌, ap, ◌∙◌}
 use native.Mathlib.Omega.{arith}

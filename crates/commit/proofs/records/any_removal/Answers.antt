@@ -1,3 +1,4 @@
+-- The walk over the records has come to p with `any` (`reached_more` for a turn); it is done where the record at p ends past the log (`reached_end`).
 use Prim.Native.Nat.{ℕ}
 use mathlib.Core.Path.{ap}
 use mathlib.Core.Bool.{false, ◌||◌}

@@ -1,3 +1,4 @@
+-- By the tests, which decide `is_insertion`: where it is false nothing is changed; else the part lent to `put` is the record's row, which ends in the log.
 use Prim.Native.Nat.{ℕ, ◌+◌}
 use mathlib.Core.Path.{ap, ◌∙◌}
 use native.Mathlib.Nat.{add-sub_cancel_left}

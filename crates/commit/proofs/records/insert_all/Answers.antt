@@ -1,3 +1,4 @@
+-- The walk has come to p with these rows (`reached_more`), which stand (`insert_keeps`), and the index is theirs; past the log it is done (`reached_end`).
 use mathlib.Core.Path.{refl, sym, ap, ◌∙◌, subst}
 use native.Mathlib.Omega.{arith}
 use lib.ListN.{length}

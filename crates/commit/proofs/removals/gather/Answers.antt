@@ -1,3 +1,4 @@
+-- By the tests, which decide `is_removal`: where it is false nothing is changed; else `copy` stores the key past n others; it ends in the log (`ends`).
 use Prim.Native.Nat.{ℕ, ◌+◌, ◌*◌, ◌≤◌}
 use mathlib.Core.Path.{ap, ◌∙◌}
 use mathlib.Core.List.{List}

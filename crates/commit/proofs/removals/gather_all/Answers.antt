@@ -1,3 +1,4 @@
+-- The walk has come to p with n keys stored, and n * (k + 2) ≤ p (`store_fits`), so there is room; at the end they are the removed keys (`stored_laid`).
 use Prim.Native.Nat.{◌+◌, ◌*◌}
 use mathlib.Core.Path.{refl, ap, ◌∙◌}
 use native.Mathlib.Omega.{arith}

@@ -1,3 +1,4 @@
+-- The front of `gone` is the table of removed keys (`front_keys`), and the rows that it spares are those kept (`spared_kept`), with an index and without.
 use Prim.Native.Nat.{◌*◌, ◌≤◌}
 use mathlib.Core.Path.{◌≡◌, refl, sym, ap, ◌∙◌}
 use mathlib.Core.Logic.{inl}

@@ -1,3 +1,4 @@
+-- After i turns `at` is the word of row i, and the rows are those spared of i rows (`iter_more`) and stand (`spare_keeps`); at the end i is n.
 use Prim.Native.Nat.{ℕ, ◌+◌, ◌≤◌, ◌-◌}
 use mathlib.Core.Path.{◌≡◌, refl, sym, ap, ◌∙◌, subst}
 use native.Mathlib.Nat.{add-sub_cancel_left}

@@ -1,3 +1,4 @@
+-- By what was found: a search by the copied key finds what one by the row does (`key_found`), so the two arms are the cases of `spare_row`.
 use mathlib.Core.Path.{◌≡◌, sym, ◌∙◌}
 use Rattle.tables.specs.Tables.{found_row}
 use Rattle.commit.specs.RowLaws.{key_found}

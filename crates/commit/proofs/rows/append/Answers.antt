@@ -1,3 +1,4 @@
+-- By the tests, which are the two conditions of `appended`: `over`, then whether the row has room; the words are those that `copy` leaves.
 use borrow.Author.Tests.{lt-leb, le-leb}
 use Rattle.commit.specs.Rows.{appended}
 use Rattle.commit.proofs.rows.append.Goals as goal

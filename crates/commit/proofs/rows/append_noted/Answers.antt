@@ -1,3 +1,4 @@
+-- By the tests: no index stays none (`none_stays`); a row without room leaves it (`uncounted`); else `add` makes it that of one row more (`append_indexed`).
 use Prim.Native.Nat.{ℕ}
 use mathlib.Core.Path.{sym, ap, ◌∙◌, subst}
 use mathlib.Core.Logic.{◌≢◌}

@@ -1,3 +1,4 @@
+-- The table among the rows stands (`new_stands`), and the index is that of all its rows or none (`index_of`), as `look_up` requires; its answer is returned.
 use mathlib.Core.Path.{sym, ap, ◌∙◌, subst}
 use native.Mathlib.Omega.{arith}
 use mathlib.Core.Logic.{inl, inr}

@@ -1,3 +1,4 @@
+-- By what was found: a row is merged, which leaves all keys and so the index (`merge_indexed`); where there is none, `append_noted` gives both.
 use Prim.Native.Nat.{ℕ, ◌+◌, ◌-◌, ◌≤◌}
 use mathlib.Core.List.{List}
 use lib.Seq.{take_all}
@@ -42,7 +43,7 @@ unfolding put_row
 returns-in-At c =
     let key_of = c.key_of-key in
     let find = c.find in
-    let merge_words_lem = c.merge_words in
+    let merging = c.merge_words in
     let a = c.args in
     let pre = c.requires in
     let k = a.info.keys in
@@ -51,7 +52,7 @@ returns-in-At c =
     let at = sym find.ensures ∙ c.in-At.is in
     let e = key_found a.rows.now (new_info a.info a.part) row key_of.result key_of.ensures (omega (arith, pre.0.keys, pre.3)) pre.0.few ∙ at in
     let r : take (length row - k) (drop k row) ≡ drop k row = take_all (length row - k) (drop k row) (omega (arith, length-drop k row)) in
-    let m : ◌≡◌ {A = Rows} (record { words = merge_words_lem.new.rows; part = a.part }) (merged_at a.info row c.in-At.p s) = rw (← r) (ap (λ (x : List ℕ). record { words = x; part = a.part }) merge_words_lem.ensures) in
+    let m : ◌≡◌ {A = Rows} (record { words = merging.new.rows; part = a.part }) (merged_at a.info row c.in-At.p s) = rw (← r) (ap (λ (x : List ℕ). record { words = x; part = a.part }) merging.ensures) in
     record { rows = rw e m; index = pre.2.is ∙ merge_indexed a.info pre.0 row pre.3 s pre.1 key_of.result c.in-At.p at (length a.index.now) ∙ ap (λ (x : Rows). index_for a.info x (length a.index.now)) (sym m) }
 
 pub returns-in-Nothing : goal.returns-in-Nothing

@@ -1,3 +1,4 @@
+-- After t turns the index has the rows of t tables, and `first` is their number (by definition); what `add_rows` requires: `before_within`, `book_tails`.
 use Rattle.std.proofs.Common.{◌≡◌, ℕ, length, sym, refl, ap, ◌∙◌, add-one, arith, rules}
 use lib.ListN.{length-replicate}
 use Rattle.tables.specs.declared.TableInfo.{TableInfo}

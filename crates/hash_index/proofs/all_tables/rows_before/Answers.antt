@@ -1,3 +1,4 @@
+-- After t turns `rows` is the sum for t tables, at most t * (2 ^ 32 - 1), so that the next sum does not overflow; at the end t is n.
 use Rattle.std.proofs.Common.{◌≡◌, refl, add-one, arith, rules}
 use Rattle.hash_index.specs.Book.{rows_before}
 use Rattle.hash_index.proofs.all_tables.rows_before.Goals as goal

@@ -1,3 +1,4 @@
+-- Each arm's opcode gives the model's line, which computes to the arm's fields; what no arm names is no opcode.
 use mathlib.Core.Path.{refl}
 use Rattle.model.specs.Basics.{tab}
 use Rattle.model.specs.Book.Layout.{form_of}

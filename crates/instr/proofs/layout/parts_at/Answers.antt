@@ -1,3 +1,4 @@
+-- After k turns q is past the first k fields, and what stands before each of them is kept.
 use Prim.Native.Nat.{◌+◌}
 use mathlib.Core.Path.{◌≡◌, sym, ap, ◌∙◌}
 use mathlib.Core.List.{List, map}

@@ -1,3 +1,4 @@
+-- Each arm's kinds have the length that the arm adds.
 use Prim.Native.Nat.{ℕ, ◌+◌, ◌*◌}
 use mathlib.Core.Path.{◌≡◌}
 use mathlib.Core.List.{List}

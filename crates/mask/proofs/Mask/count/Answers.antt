@@ -1,3 +1,4 @@
+-- After i turns n is how many of the first i lanes are live (`iter_more`), which is i at most (`how_many_le`); at the end i is 256.
 use native.Mathlib.Numerals.{add-one}
 use mathlib.Core.Path.{◌∙◌, ◌≡◌}
 use Prim.Native.Nat.{ℕ, suc}

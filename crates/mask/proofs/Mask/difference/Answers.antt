@@ -1,3 +1,4 @@
+-- After i turns the first i lanes are live if self has them and other has not, the rest as in self (`both_turn`); at the end i is 256 (`both_all`).
 use mathlib.Core.Path.{◌≡◌}
 use native.Mathlib.Omega.{arith}
 use lib.ListN.{length}

@@ -1,3 +1,4 @@
+-- After i turns `last` is the last live one of i lanes, or 0 for none (`last_turn`); at the end lane 0 is told from none by its mark (`end_by`).
 use Prim.Native.Nat.{◌+◌}
 use mathlib.Core.Path.{◌∙◌, ◌≡◌}
 use mathlib.Core.Bool.{false, cond}

@@ -1,3 +1,4 @@
+-- After i turns the first i marks tell whether a lane is below `lanes` (`filled_turn`); the marks past the last turn are false already (`filled_rest`).
 use Prim.Native.Nat.{ℕ}
 use mathlib.Core.Path.{sym, ◌∙◌}
 use mathlib.Core.Bool.{false}

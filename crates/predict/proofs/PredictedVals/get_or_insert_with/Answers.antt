@@ -1,3 +1,4 @@
+-- By the slot that `get` ensures, as `gotten` goes: a hit or none changes no word; a free one is a slot (`get_below`), and there `insert` ensures the whole.
 use mathlib.Core.Path.{sym, ◌∙◌}
 use Rattle.predicted_index.specs.Home.{home_of}
 use Rattle.predicted_index.specs.HomeLaws.{home_below}

@@ -1,3 +1,4 @@
+-- Each answer is the part that the definition takes of the log: nothing of an empty index or a free slot, else the words at the place that was hit.
 use mathlib.Core.Path.{sym, ◌∙◌, subst}
 use native.Mathlib.Omega.{arith}
 use Rattle.predicted_index.specs.Home.{home_of}

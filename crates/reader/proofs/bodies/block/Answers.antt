@@ -1,3 +1,4 @@
+-- By whether `left` is bad: then the block is bad too (`block_stops`); if not, the block is n clean words from there (`block_is`), which `cleans` ensures.
 use mathlib.Core.Path.{sym, ap, ◌∙◌}
 use Rattle.reader.specs.Values.{scan_of}
 use Rattle.reader.specs.BodyLaws.{block_is, block_stops}

@@ -1,3 +1,4 @@
+-- By the kind: from 1 to 5 the call's contract is what `scan` is there; any other is 0 or above 5 (`above`), and `scan` is bad (`scan_rest`).
 use Rattle.reader.specs.BodyLaws.{scan_rest}
 use mathlib.Core.Path.{sym, ◌∙◌}
 use Rattle.model.specs.Laws.Iter.{above}

@@ -1,3 +1,4 @@
+-- After i turns t is the walk i clean words past s (`iter_more`); at the end i is n.
 use mathlib.Core.Path.{◌≡◌, refl, ◌∙◌}
 use native.Mathlib.Omega.{arith}
 use borrow.Author.Rules.{rules}

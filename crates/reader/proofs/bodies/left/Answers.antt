@@ -1,3 +1,4 @@
+-- By the scan and the tests: `end` is `at + n` just where it is not before `at` and `end - at` is n, and so the model's test goes the same way.
 use borrow.Author.Tests.{eq-eqb, ne_eqb}
 use Prim.Native.Nat.{◌+◌}
 use native.Mathlib.Omega.{arith}

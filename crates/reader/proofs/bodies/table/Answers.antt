@@ -1,3 +1,4 @@
+-- By the width: 0 is bad (`table_empty`), above 16 is bad (`table_wide`); else the calls' contracts, one in the other, are the walk (`table_is`).
 use Rattle.reader.specs.BodyLaws.{table_is, table_empty, table_wide, words_fit}
 use mathlib.Core.Path.{sym}
 use Prim.Native.Nat.{◌+◌}

@@ -1,3 +1,4 @@
+-- After k turns t is the walk past k of the fields (`iter_more`); at the end k is 6, and since these are the form's fields, it is the model's (`instr_is`).
 use lib.ListN.{length}
 use mathlib.Core.Path.{◌≡◌, refl, ◌∙◌}
 use native.Mathlib.Omega.{arith}

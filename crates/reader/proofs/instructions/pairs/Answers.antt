@@ -1,3 +1,4 @@
+-- If the count is bad, so is the whole (`list_stops`); else t is the walk i pairs past it (`iter_more`), and at the end i is the count (`list_is`).
 use Rattle.reader.specs.ScanLaws.{list_is, list_stops, pair_bad}
 use mathlib.Core.Path.{◌≡◌, refl, sym, ap, ◌∙◌}
 use native.Mathlib.Omega.{arith}

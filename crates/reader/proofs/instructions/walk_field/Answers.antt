@@ -1,3 +1,4 @@
+-- By the field: at `Nothing` both sides are s; at any other the arm's call ensures what the model's `field` is there.
 use Rattle.model.specs.Book.Scan.{field}
 use Rattle.reader.proofs.instructions.walk_field.Goals as goal
 

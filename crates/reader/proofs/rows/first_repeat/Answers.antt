@@ -1,3 +1,4 @@
+-- No row before i repeats (`below_more`), and row i is at `own` (`next_row`); if it does, it is the first (`refuse_row`); at the end none does (`pass_rows`).
 use mathlib.Core.Path.{◌≡◌, sym, ◌∙◌}
 use native.Mathlib.Omega.{arith}
 use borrow.Author.Count.{below_more}

@@ -1,3 +1,4 @@
+-- By the test: the rows are few enough to index (`serves_few`), or the index is empty, as `IndexOf` allows; either call is about the table that `info_at` read.
 use mathlib.Core.Path.{refl, sym, ◌∙◌, subst}
 use mathlib.Core.Logic.{inl}
 use Rattle.tables.specs.Tables.{RowsStand}

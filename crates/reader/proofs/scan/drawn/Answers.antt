@@ -1,3 +1,4 @@
+-- By the test, then by the comparison: that it holds or fails gives the value of the model's own comparison (`eq-eqb`, `lt-ltb`, `le-leb` and the others).
 use borrow.Author.Tests.{lt-ltb, le-ltb, le-leb, lt-leb, eq-eqb, ne_eqb}
 use Rattle.reader.proofs.scan.drawn.Goals as goal
 

@@ -1,3 +1,4 @@
+-- By the draw: in each case the model's `mark` is the same scan, since `next` is `at + 1` and `earliest` is the model's.
 use Rattle.reader.proofs.scan.mark.Goals as goal
 
 pub returns-in-Fine : goal.returns-in-Fine

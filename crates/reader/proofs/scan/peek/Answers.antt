@@ -1,3 +1,4 @@
+-- By the scan: a bad one is 0 on both sides; a good one is the word that `take` gives, or past the end 0, as `get_or` is there (`ListN.get_or-eq_default`).
 use Rattle.reader.proofs.scan.peek.Goals as goal
 
 pub returns-then-at-words : goal.returns-then-at-words

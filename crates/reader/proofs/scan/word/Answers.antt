@@ -1,3 +1,4 @@
+-- By the scan, then by whether `at` is below `end`: if so, `take`, `drawn` and `mark` in turn are the model's `step`; if not, both sides are bad.
 use borrow.Author.Tests.{lt-ltb, le-ltb}
 use Rattle.model.specs.Book.Scan.{step}
 use Rattle.reader.proofs.scan.word.Goals as goal

@@ -1,3 +1,4 @@
+-- After i turns the lines of i entries are written and counted (`numbered_more`), and an entry has one at most (`one_line`); at the end i is the entry count.
 use Rattle.model.specs.Book.Contents.{count}
 use Rattle.report.specs.LinesLaws.{numbered_more, one_line, written_none}
 use mathlib.Core.Path.{◌≡◌, ◌∙◌}

@@ -1,3 +1,4 @@
+-- The walk over the records has come to p with their lines written (`reached_more`); at its end (`reached_end`) these are all lines (`written_records`).
 use mathlib.Core.Path.{refl, ◌∙◌}
 use native.Mathlib.Omega.{arith}
 use lib.ListN.{length}

@@ -1,3 +1,4 @@
+-- To append all bytes to the buffer as it was is to append those from i on to it as it is (`byte_more`); at the end none is left.
 use Prim.Native.Nat.{◌+◌}
 use mathlib.Core.Path.{◌≡◌, refl, sym, ap, ◌∙◌}
 use lib.ListN.{length, drop}

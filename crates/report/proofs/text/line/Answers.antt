@@ -1,3 +1,4 @@
+-- By the contracts of the four calls, one put into the other: name, first number, numbers, line feed; that is the whole line appended (`line_is`).
 use mathlib.Core.Path.{sym, ap, ◌∙◌}
 use Rattle.report.specs.Text.{field, fields, pushed, appended, up_to}
 use Rattle.report.specs.TextLaws.{line_is}

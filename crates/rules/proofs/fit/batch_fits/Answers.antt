@@ -1,3 +1,4 @@
+-- By the calls' contracts and `first_rule_is` each number is the one that the model reads from the book; the test of these is the model's (`batch_test`).
 use mathlib.Core.Path.{sym}
 use native.Mathlib.Omega.{arith}
 use Rattle.model.specs.Laws.Book.{rule_entry}

@@ -1,3 +1,4 @@
+-- By the calls' contracts each number is the one that the model reads from the book; the test of these is the model's (`prediction_test`).
 use mathlib.Core.Path.{sym}
 use native.Mathlib.Omega.{arith}
 use Rattle.model.specs.Laws.Book.{few_tables}

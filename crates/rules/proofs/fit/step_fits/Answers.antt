@@ -1,3 +1,4 @@
+-- By the kind: 4 is a batch at `at`, which the model reads as step k (`step_batch`); else it is 5 (`not_batch`), and likewise a prediction (`step_prediction`).
 use Prim.Native.Nat.{ℕ, ◌+◌}
 use mathlib.Core.Path.{sym, ap, ◌∙◌}
 use native.Mathlib.Omega.{arith}

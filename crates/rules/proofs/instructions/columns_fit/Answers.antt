@@ -1,3 +1,4 @@
+-- By the instruction: width and keys are those of the model's table (`table_width`, `table_keys`), so the arm's tests are the model's; nine have none.
 use mathlib.Core.Bool.{and-true}
 use native.Mathlib.Omega.{arith}
 use Rattle.model.specs.Check.{columns_of}

@@ -1,3 +1,4 @@
+-- By the instruction: lists are tested against dst (`against_all`), two by `all_append`, write values by `writes_as_entries`; ten instructions have none.
 use mathlib.Core.Path.{refl}
 use Rattle.model.specs.Check.{held_of, free?}
 use Rattle.instr.specs.Meaning.{instr_of}

@@ -1,3 +1,4 @@
+-- By the instruction: the arm's tests are that of the model's one list, two lists by `all_append`, write values as entries by `writes_as_entries`.
 use mathlib.Core.Bool.{and-true, and_assoc}
 use mathlib.Core.Path.{refl, ◌∙◌}
 use Rattle.model.specs.Check.{reads_of, known?}

@@ -1,3 +1,4 @@
+-- By the instruction: counts are the model's lengths (`count_entries`, `count_writes`), and keys and width its table's (`table_keys`, `table_width`).
 use mathlib.Core.Bool.{and-true}
 use native.Mathlib.Omega.{arith}
 use Rattle.model.specs.Check.{sizes_of}

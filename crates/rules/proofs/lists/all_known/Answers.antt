@@ -1,3 +1,4 @@
+-- The first k entries are known (`below_more`); if the next is not, the whole is false (`entries_no`); at the end k is the count, and all are (`entries_yes`).
 use mathlib.Core.Path.{◌≡◌, sym, ap, ◌∙◌}
 use native.Mathlib.Omega.{arith}
 use borrow.Author.Count.{below_more}

@@ -1,3 +1,4 @@
+-- The first k values fit (`below_more`); if the next does not, the whole is false (`currents_no`); at the end k is the count, and all fit (`currents_yes`).
 use Prim.Native.Nat.{◌+◌}
 use mathlib.Core.Path.{◌≡◌, sym, ap, ◌∙◌}
 use native.Mathlib.Omega.{arith}

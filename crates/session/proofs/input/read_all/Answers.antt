@@ -1,3 +1,4 @@
+-- `at` stays within the buffer, whose length stays; by the contract of `read_some` the bytes read end past `at` and within it, so less room is left each turn.
 use Rattle.std.proofs.Common.{arith}
 use Rattle.session.proofs.Known.{consumes_more}
 use Rattle.session.proofs.input.read_all.Goals as goal
