@@ -13,6 +13,7 @@ pub struct Args {
 
 impl Args {
     // With one word more. There is no room for a 17th, which no key or row has.
+    #[tactic(auto, unfolding(crate::specs::Args::pushed))]
     pub fn push(mut self, x: u32) -> Self
         ensures { result ≡ pushed self x }
     {

@@ -25,6 +25,7 @@ pub fn variable(bindings: &[u32], v: Variable, lane: Lane) -> u32
 }
 
 // What the entry whose tag stands at word p stands for in a lane: a variable, or the number itself. One test tells that both words are there.
+#[tactic(auto, using(crate::specs::ColumnLaws::const_entry), unfolding(crate::specs::Columns::value_at))]
 fn value(words: &[u32], bindings: &[u32], lane: Lane, p: usize) -> u32
     requires { p + 1 < 2 ^ 64 }
     ensures { result ≡ value_at words.now bindings.now lane.0 p }

@@ -149,6 +149,7 @@ pub fn entry_at(words: &[u32], p: usize) -> QueryEntry
 }
 
 // The write value whose tag stands at p.
+#[tactic(auto, using(crate::specs::InstrLaws::write_rest), unfolding(crate::specs::Instr::write_by))]
 pub fn write_at(words: &[u32], p: usize) -> WriteVal
     requires { p ≤ 1099511627776 }
     ensures { result ≡ specs.write_at words.now p }

@@ -52,6 +52,7 @@ pub fn append(
 }
 
 // The word past the record at p: its kind and its table, then a key if it is a removal, else a row.
+#[tactic(auto, unfolding(crate::specs::Walk::end_of))]
 pub fn end_of(words: &[u32], log: &[u32], p: usize) -> usize
     requires { p ≤ length log.now }
     ensures { result ≡ end_of words.now log.now p }

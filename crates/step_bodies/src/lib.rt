@@ -44,6 +44,7 @@ fn bound_count(bound: Bound) -> usize
 }
 
 // A variable and its column, if it is bound; and the word past them.
+#[tactic(auto, using(crate::specs::Runs::put_cons, model::specs::Laws::Bodies::length_part))]
 fn write_column(
     bindings: &[u32],
     known: bool,
