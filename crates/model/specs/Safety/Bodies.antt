@@ -100,7 +100,7 @@ module _ (E : Env) (tok : All TableOk E.tables) (fn : (o : Site) (c f : ℕ) (ar
         (hold_read K dst s'.bindings s'.live (v'.readable g)) c.fit.1.0 kn (All-right CleanConst args1 args2 cn)
         (λ ws w. fn (here k j i) 1 f2 ws w) (λ s'' d. d) (losing i s')) _ a.inv))
 
-    -- a test of readPair entries drops a lane or leaves it
+    -- a test of read_pair entries drops a lane or leaves it
     test_ok : (x y : QueryEntry) (b : ℕ → ℕ → Bool) → All (IsKnown K) (x ∷ y ∷ []) → All CleanConst (x ∷ y ∷ [])
         → Lane E K k j 0 s (lanes (λ i. read_pair (here k j i) x y λ p q. when (b p q) (lose i)) s)
     test_ok x y b kn cn = lanes_quiet E K k j _ (λ i s' v' g l.

@@ -43,7 +43,7 @@ module _ (E : Env) (K : ℕ → Type 0) (k j : ℕ) where
         (λ q. subst (λ y. Settled y (f n (turns n s))) (sym q) d.1) (le_cases lt))
         (λ t. either (λ q. pass_settled h g r n s v x q) (λ q. subst (λ y. Settled y (turns n s)) (sym q) (r n (turns n s) t)) (le_cases lt))
 
-  -- ## The readPair passes
+  -- ## The read_pair passes
 
   abbrev is_missed : State → ℕ → Bool
   is_missed s i = is_live s i && is_none (get_or s.out i none)
