@@ -1,6 +1,5 @@
 -- The instructions of a rule, in order, while a lane is live and the run goes on: w is the book's words.
-use Rattle.std.specs.Prelude.{ℕ, ◌&&◌, List, take, replicate}
-use Rattle.std.proofs.Math.Option.{Option, none, some}
+use Rattle.std.specs.Prelude.{ℕ, ◌&&◌, List, take, replicate, Option, None, Some}
 use Rattle.model.specs.Basics.{iter, when}
 use Rattle.model.specs.Book.Syntax.{stale}
 use Rattle.model.specs.Book.Decode.{instr_place}
@@ -26,8 +25,8 @@ as_running batch bindings log index = record { batch = batch; bindings = binding
 
 -- dst takes the first n words of an array
 abbrev pub bound_to : Option ℕ → ℕ → List ℕ → List ℕ → List ℕ
-bound_to none n out m = m
-bound_to (some v) n out m = bound v (take n out) m
+bound_to None n out m = m
+bound_to (Some v) n out m = bound v (take n out) m
 
 -- the lanes before an instruction, with no dst yet
 abbrev pub begun : Running → Lanes

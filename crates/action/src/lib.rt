@@ -19,8 +19,8 @@ ghost use Rattle.action.specs.Run.{bound_to, ran_instr, ran_next, ran_instrs, as
 use bindings::Bindings;
 use contents::Contents;
 use execution::{Change, ExecutionState, Live, Staging};
-use ids::STALE;
-use instr::{Dst, Instr};
+use ids::{STALE, Variable};
+use instr::Instr;
 use lanes::{Ask, Test};
 use mask::Mask;
 
@@ -33,6 +33,7 @@ pub struct Batch {
 }
 
 // The lanes' part of an instruction; its dst is left in `out`.
+#[tactic(auto, using(crate::specs::ActLaws::searchable), unfolding(crate::specs::Act::acted))]
 fn act(
     words: &[u32],
     chains: &[u32],
@@ -50,8 +51,7 @@ fn act(
         (as_lanes start.mask.live start.state log.old index.old out.old) }
     ensures fits { result.state.used ≤ length log.old }
 {
-    let mask = start.mask;
-    let state = start.state;
+    let Live { mask, state } = start;
     match i {
         Instr::LookupOrInsertDefault {
             table,
@@ -227,18 +227,19 @@ fn act(
 }
 
 // dst takes the lanes' words of `out`, and is bound.
-fn bind_dst(kept: Bindings, dst: Dst, out: &[u32], bindings: &mut [u32]) -> Bindings
+fn bind_dst(kept: Bindings, dst: Option<Variable>, out: &[u32], bindings: &mut [u32]) -> Bindings
     requires { IsVariable (variable_of dst) × (length bindings.old ≡ 8192) }
     ensures kept { result ≡ bound_in (variable_of dst) kept }
     ensures columns { bindings.new ≡ bound_to (variable_of dst) kept.matches out.now bindings.old }
 {
     match dst {
-        Dst::Var(v) => kept.insert(v, out, bindings),
-        Dst::Nothing => kept,
+        Some(v) => kept.insert(v, out, bindings),
+        None => kept,
     }
 }
 
 // One instruction: its lanes' part, and its dst bound.
+#[tactic(auto, unfolding(crate::specs::Run::ran_instr))]
 fn run_instr(
     words: &[u32],
     chains: &[u32],
@@ -255,30 +256,21 @@ fn run_instr(
         (as_running batch bindings.old log.old index.old) }
     ensures fits { result.state.used ≤ length log.old }
 {
-    let mask = batch.mask;
-    let state = batch.state;
+    let start = Live {
+        mask: batch.mask,
+        state: batch.state,
+    };
     let mut out = [STALE; 256];
-    let acted = act(
-        words,
-        chains,
-        bindings,
-        i,
-        Live { mask, state },
-        log,
-        index,
-        &mut out,
-    );
-    let left = acted.mask;
-    let after = acted.state;
-    let kept = bind_dst(batch.bindings, i.dst(), &out, bindings);
+    let Live { mask, state } = act(words, chains, bindings, i, start, log, index, &mut out);
     Batch {
-        bindings: kept,
-        mask: left,
-        state: after,
+        bindings: bind_dst(batch.bindings, i.dst(), &out, bindings),
+        mask,
+        state,
     }
 }
 
 // The instruction whose opcode stands at p, if a lane is live and the run goes on.
+#[tactic(auto, unfolding(crate::specs::Run::ran_next))]
 fn run_next(
     words: &[u32],
     chains: &[u32],
@@ -296,9 +288,7 @@ fn run_next(
         (as_running batch bindings.old log.old index.old) }
     ensures fits { result.state.used ≤ length log.old }
 {
-    let state = batch.state;
-    let mask = batch.mask;
-    if state.going() & !mask.is_empty() {
+    if batch.state.going() && !batch.mask.is_empty() {
         return run_instr(
             words,
             chains,
@@ -313,6 +303,7 @@ fn run_next(
 }
 
 // The instructions of rule r, in order.
+#[tactic(auto, unfolding(crate::specs::Run::ran_instrs))]
 pub fn run_instrs(
     words: &[u32],
     chains: &[u32],
@@ -335,11 +326,9 @@ pub fn run_instrs(
     let n = words::size(words::word(words, first + 1));
     let mut batch = start;
     let mut p = first + 2;
-    let mut j = 0;
-    while j < n {
+    for _ in 0..n {
         batch = run_next(words, chains, p, batch, bindings, log, index);
         p = instr::next(words, p);
-        j += 1;
     }
     batch
 }

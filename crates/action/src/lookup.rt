@@ -84,22 +84,15 @@ pub fn lookup_or_insert_default(
         (as_lanes start.mask.live start.state log.old index.old out.old) }
     ensures fits { result.used ≤ length log.old }
 {
-    let of = ask.row.of;
-    let key = ask.key;
-    let col = ask.col;
-    let mask = start.mask;
-    let state = start.state;
-    let found = lanes::fill(
-        words,
-        chains,
-        bindings,
-        Ask::Lookup { of, key, col },
-        mask,
-        out,
-    );
+    let row = Ask::Lookup {
+        of: ask.row.of,
+        key: ask.key,
+        col: ask.col,
+    };
+    let found = lanes::fill(words, chains, bindings, row, start.mask, out);
     let missed = Live {
-        mask: mask.difference(found),
-        state,
+        mask: start.mask.difference(found),
+        ..start
     };
     predict::serve_lanes(words, chains, bindings, ask, missed, log, index, out)
 }

@@ -1,9 +1,8 @@
 -- The answer that the code assembles is the model's, where its words say what the model's tables and state do.
-use Rattle.std.specs.Prelude.{ℕ, zero, suc, ◌+◌, ◌-◌, ◌^◌, ◌<◌, ◌≤◌, ◌≡◌, Bool, drop}
+use Rattle.std.specs.Prelude.{ℕ, zero, suc, ◌+◌, ◌-◌, ◌^◌, ◌<◌, ◌≤◌, ◌≡◌, Bool, drop, None, Ok, Err}
 use Rattle.std.proofs.Math.Path.{refl, ap}
 use Rattle.std.proofs.Common.{sym, ◌∙◌, arith, length-take, take-append-drop, take-suc, take_at, drop_at, get_or-take}
 use Rattle.std.proofs.Math.Bool.{true, false, cond}
-use Rattle.std.proofs.Math.Option.{none}
 use mathlib.Core.List.{List, [], ◌∷◌, ◌++◌, map, map-append, reverse, append_assoc, append-nil}
 use Rattle.std.proofs.Math.Dec.{leb}
 use borrow.Author.Tests.{leb-true}
@@ -27,7 +26,7 @@ use Rattle.commit.specs.Commit.{Left, committed_rows}
 use Rattle.commit.specs.Laid.{length_join}
 use Rattle.record_log.specs.RecordLaws.{Sized, records_of}
 use Rattle.commit.specs.CommitLaws.{all_rows, WideTable, whole, row_words_lem, commit_length, commit_kept, commit_wide, committed_is, rows_first, count_at}
-use Rattle.answer.specs.declared.Assembled.TheVariants.{Words, Over}
+use Rattle.refusal.specs.declared.Refusal.TheVariants.{AnswerFull}
 use Rattle.answer.specs.Sums.{sum, sum_none, sum_suc}
 use Rattle.step_bodies.specs.Runs.{join_snoc, join_append}
 use Rattle.answer.specs.Layout.{step_kind, rows_length, Results, table_of, counter_of, length_of, step_of, log_of, bodies, whole_length, answered, assembled, assembled_length, shape_of, Enough}
@@ -211,7 +210,7 @@ module _ (r : Results) (us : List Table) (s : State) (h : Tabled r.book r.counts
   whole_length_lem : whole_length (with_steps (take k b) r) ≡ length (answer us s)
   whole_length_lem = length_same (take k b) r ∙ length_is r us s h g
 
-  pub assembled_length_lem : assembled_length (with_steps (take k b) r) (length b) ≡ cond (leb (length (answer us s)) (length b)) (Words (length (answer us s))) Over
+  pub assembled_length_lem : assembled_length (with_steps (take k b) r) (length b) ≡ cond (leb (length (answer us s)) (length b)) (Ok (length (answer us s))) (Err AnswerFull)
   unfolding assembled_length
   assembled_length_lem = rw whole_length_lem
 
@@ -233,7 +232,7 @@ module _ (r : Results) (us : List Table) (s : State) (h : Tabled r.book r.counts
 
 -- ## What the commit leaves
 
-module _ (w : List ℕ) (no_contents : contents_refusal w ≡ none) (no_bodies : bodies_refusal w ≡ none) (rs : List Record) (sized : All (Sized w) rs) (base : List ℕ) (room : row_words (commit rs (tables w) 0) ≤ length base) where
+module _ (w : List ℕ) (no_contents : contents_refusal w ≡ None) (no_bodies : bodies_refusal w ≡ None) (rs : List Record) (sized : All (Sized w) rs) (base : List ℕ) (room : row_words (commit rs (tables w) 0) ≤ length base) where
   abbrev ts : List Table
   ts = commit rs (tables w) 0
 

@@ -1,5 +1,5 @@
 -- The answer book by the words that a run and the commit left: its bodies, and their entries by number.
-use Rattle.std.specs.Prelude.{◌≡◌, ℕ, ◌+◌, ◌-◌, ◌*◌, ◌^◌, ◌<◌, ◌≤◌, Bool, cond, List, [], ◌∷◌, ◌++◌, eqb, ltb, leb, length, get_or, take, drop, replicate}
+use Rattle.std.specs.Prelude.{◌≡◌, ℕ, ◌+◌, ◌-◌, ◌*◌, ◌^◌, ◌<◌, ◌≤◌, Bool, cond, List, [], ◌∷◌, ◌++◌, eqb, ltb, leb, length, get_or, take, drop, replicate, Result, Ok, Err}
 use Rattle.model.specs.Basics.{tab}
 use Rattle.model.specs.Book.Contents.{kind_of, first_of, table_count, counter_count, step_count, first_step}
 use Rattle.model.specs.Book.Decode.{part}
@@ -7,8 +7,8 @@ use Rattle.model.specs.Laws.Book.{width_of}
 use Rattle.model.specs.Answer.{Body, lay_out, flag}
 use Rattle.commit.specs.declared.Committed.{Committed}
 use Rattle.execution.specs.declared.ExecutionState.{ExecutionState}
-use Rattle.answer.specs.declared.Assembled.{Assembled}
-use Rattle.answer.specs.declared.Assembled.TheVariants.{Words, Over}
+use Rattle.refusal.specs.declared.Refusal.{Refusal}
+use Rattle.refusal.specs.declared.Refusal.TheVariants.{AnswerFull}
 use Rattle.answer.specs.declared.entries.Shape.{Shape}
 use Rattle.answer.specs.declared.entries.Entry.{Entry}
 use Rattle.answer.specs.Sums.{sum}
@@ -116,8 +116,8 @@ answered r n = lay_out (bodies r) ++ replicate (n - whole_length r) 0
 unfoldable pub assembled : Results → List ℕ → List ℕ
 assembled r b = cond (leb (whole_length r) (length b)) (answered r (length b)) b
 
-unfoldable pub assembled_length : Results → ℕ → Assembled
-assembled_length r n = cond (leb (whole_length r) n) (Words (whole_length r)) Over
+unfoldable pub assembled_length : Results → ℕ → Result ℕ Refusal
+assembled_length r n = cond (leb (whole_length r) n) (Ok (whole_length r)) (Err AnswerFull)
 
 -- what the code is given
 abbrev pub results_of : (w counts rows next lengths steps : List ℕ) → Bool → List ℕ → Results

@@ -1,4 +1,4 @@
-// The bodies of tables and of the log; and the step bodies, which are written before their place is known.
+// The bodies of tables and of the log.
 ghost use Rattle.std.specs.Prelude.{◌≡◌, ◌∷◌, ◌+◌, ◌<◌, ◌≤◌, length, take};
 ghost use Rattle.std.proofs.lemmas.List.Edits.{sets};
 ghost use Rattle.model.specs.Answer as model;
@@ -8,19 +8,6 @@ ghost use Rattle.answer.specs.Layout.{rows_length, table_words, tables_words};
 use crate::entries;
 use ids::TableId;
 use step_bodies::put;
-
-// The first n words go d words to the right, the last one first.
-pub fn shift(answer: &mut [u32], n: usize, d: usize)
-    requires { d + n ≤ length answer.old }
-    ensures { answer.new ≡ sets answer.old d (take n answer.old) }
-{
-    let mut i = 0;
-    while i < n {
-        let j = n - 1 - i;
-        answer[d + j] = answer[j];
-        i += 1;
-    }
-}
 
 // A table, whose rows stand at the word `from` of `rows`; and the word past it.
 fn write_table(
@@ -67,12 +54,10 @@ pub fn write_tables(
 {
     let mut from = 0;
     let mut at = start;
-    let mut t = 0;
-    while t < n {
+    for t in 0..n {
         let table = TableId(t as u32);
         at = write_table(words, counts, rows, from, table, at, answer);
         from += entries::rows_length(words, counts, table);
-        t += 1;
     }
     at
 }
@@ -82,6 +67,6 @@ pub fn write_log(changed: bool, log: &[u32], at: usize, answer: &mut [u32])
     requires { at + 1 + length log.now ≤ length answer.old }
     ensures { answer.new ≡ sets answer.old at (model.flag changed ∷ log.now) }
 {
-    answer[at] = put::flag(changed);
+    answer[at] = u32::from(changed);
     put::write(log, at + 1, answer);
 }

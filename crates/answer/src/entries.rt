@@ -15,6 +15,17 @@ pub struct Shape {
     pub first: usize,
 }
 
+// What the entries are made of: the book's words, how many rows each table has, how many words each step's body has, and how many the log.
+#[derive(Clone, Copy)]
+pub struct Sizes<'a> {
+    pub words: &'a [u32],
+    pub counts: &'a [u32],
+    pub lengths: &'a [u32],
+    pub used: usize,
+    pub shape: Shape,
+    ghost small: { Small words.now counts.now lengths.now used shape },
+}
+
 // A body's kind, and how many words it has.
 #[derive(Clone, Copy)]
 pub struct Entry {
@@ -53,65 +64,6 @@ fn step_kind(kind: u32) -> u32
     if kind == 4 { 6 } else { 7 }
 }
 
-// Body i: tables, counters, steps, then the log, of `used` words.
-fn entry_of(
-    words: &[u32],
-    counts: &[u32],
-    lengths: &[u32],
-    used: usize,
-    z: Shape,
-    i: usize,
-) -> Entry
-    requires { Small words.now counts.now lengths.now used z }
-    ensures { result ≡ entry_at words.now counts.now lengths.now used z i }
-{
-    let counters = z.tables;
-    let steps = counters + z.counters;
-    let log = steps + z.steps;
-    if i < counters {
-        let n = rows_length(words, counts, TableId(i as u32));
-        return Entry {
-            kind: 1,
-            length: 4 + n,
-        };
-    }
-    if i < steps {
-        return Entry { kind: 2, length: 1 };
-    }
-    if i < log {
-        let k = i - steps;
-        let kind = step_kind(contents::kind_of(words, z.first + k));
-        let length = words::size(words::word(lengths, k));
-        return Entry { kind, length };
-    }
-    Entry {
-        kind: 8,
-        length: 1 + used,
-    }
-}
-
-// How many words the first n bodies have.
-pub fn length_of(
-    words: &[u32],
-    counts: &[u32],
-    lengths: &[u32],
-    used: usize,
-    z: Shape,
-    n: usize,
-) -> usize
-    requires { Small words.now counts.now lengths.now used z × (n ≤ body_count z) }
-    ensures { result ≡ bodies_length words.now counts.now lengths.now used z n }
-{
-    let mut s = 0;
-    let mut i = 0;
-    while i < n {
-        let e = entry_of(words, counts, lengths, used, z, i);
-        s += e.length;
-        i += 1;
-    }
-    s
-}
-
 // The three words of an entry, at the word `at`.
 fn write_entry(e: Entry, first: usize, at: usize, answer: &mut [u32])
     requires { (e.length < 2 ^ 32) × (first < 2 ^ 32) × (at + 3 ≤ length answer.old) }
@@ -122,28 +74,65 @@ fn write_entry(e: Entry, first: usize, at: usize, answer: &mut [u32])
     answer[at + 2] = e.length as u32;
 }
 
-// The entries of the first n bodies, from word 1 on; the first body begins at `start`.
-pub fn write_entries(
-    words: &[u32],
-    counts: &[u32],
-    lengths: &[u32],
-    used: usize,
-    z: Shape,
-    n: usize,
-    start: usize,
-    answer: &mut [u32],
-)
-    requires { Small words.now counts.now lengths.now used z × (n ≤ body_count z) × (start ≤ 1024)
-        × (1 + 3 * n ≤ length answer.old) }
-    ensures { answer.new ≡ sets answer.old 1
-        (entries_words words.now counts.now lengths.now used z start n) }
-{
-    let mut first = start;
-    let mut i = 0;
-    while i < n {
-        let e = entry_of(words, counts, lengths, used, z, i);
-        write_entry(e, first, 1 + 3 * i, answer);
-        first += e.length;
-        i += 1;
+impl<'a> Sizes<'a> {
+    // How many bodies there are: one more than tables, counters and steps, for the log.
+    pub fn bodies(self) -> usize
+        ensures { result ≡ body_count self.entry.shape }
+    {
+        self.shape.tables + self.shape.counters + self.shape.steps + 1
+    }
+
+    // Body i: tables, counters, steps, then the log.
+    fn entry_at(self, i: usize) -> Entry
+        ensures { result ≡ entry_at self.entry.words.now self.entry.counts.now self.entry.lengths.now
+            self.entry.used self.entry.shape i }
+    {
+        let counters = self.shape.tables;
+        let steps = counters + self.shape.counters;
+        let log = steps + self.shape.steps;
+        if i < counters {
+            let n = rows_length(self.words, self.counts, TableId(i as u32));
+            return Entry {
+                kind: 1,
+                length: 4 + n,
+            };
+        }
+        if i < steps {
+            return Entry { kind: 2, length: 1 };
+        }
+        if i < log {
+            let k = i - steps;
+            let kind = step_kind(contents::kind_of(self.words, self.shape.first + k));
+            let length = words::size(words::word(self.lengths, k));
+            return Entry { kind, length };
+        }
+        Entry {
+            kind: 8,
+            length: 1 + self.used,
+        }
+    }
+
+    // How many words the first n bodies have.
+    pub fn length_of(self, n: usize) -> usize
+        requires { n ≤ body_count self.shape }
+        ensures { result ≡ bodies_length self.entry.words.now self.entry.counts.now self.entry.lengths.now
+            self.entry.used self.entry.shape n }
+    {
+        (0..n).map(|i| self.entry_at(i).length).sum()
+    }
+
+    // The entries of the first n bodies, from word 1 on; the first body begins at `start`.
+    pub fn write_entries(self, n: usize, start: usize, answer: &mut [u32])
+        requires { (n ≤ body_count self.shape) × (start ≤ 1024) × (1 + 3 * n ≤ length answer.old) }
+        ensures { answer.new ≡ sets answer.old 1
+            (entries_words self.entry.words.now self.entry.counts.now self.entry.lengths.now
+            self.entry.used self.entry.shape start n) }
+    {
+        let mut first = start;
+        for i in 0..n {
+            let e = self.entry_at(i);
+            write_entry(e, first, 1 + 3 * i, answer);
+            first += e.length;
+        }
     }
 }

@@ -6,68 +6,47 @@ mod entries;
 
 ghost use Rattle.std.specs.Prelude.{◌≡◌, ◌≤◌, length, take};
 ghost use Rattle.model.specs.Laws.Book.{Readable};
-ghost use Rattle.answer.specs.Layout.{shape_of, Small, whole_length, answered, assembled, assembled_length, results_of, left_by, Enough};
+ghost use Rattle.answer.specs.Layout.{shape_of, whole_length, answered, assembled, assembled_length, results_of, left_by, Enough};
 
-use crate::entries::Shape;
+use crate::entries::Sizes;
 use commit::Committed;
 use execution::ExecutionState;
+use refusal::Refusal;
 use step_bodies::put;
-
-// How many words the answer has; or it exceeds the words lent for it.
-#[derive(Clone, Copy)]
-pub enum Assembled {
-    Words(usize),
-    Over,
-}
-
-// The answer's bodies, how many words those of the steps have at the front, and the changed flag.
-#[derive(Clone, Copy)]
-struct Plan {
-    shape: Shape,
-    scratch: usize,
-    changed: bool,
-}
 
 // The step bodies go from the front to their place, and the rest around them.
 fn fill(
-    words: &[u32],
-    counts: &[u32],
+    sizes: Sizes,
     rows: &[u32],
     next: &[u32],
-    lengths: &[u32],
     log: &[u32],
-    plan: Plan,
+    scratch: usize,
+    changed: bool,
     answer: &mut [u32],
 )
-    requires { (plan.shape ≡ shape_of words.now)
-        × Small words.now counts.now lengths.now (length log.now) plan.shape
-        × (plan.shape.counters ≤ length next.now)
+    requires { (sizes.shape ≡ shape_of sizes.words.now) × (sizes.used ≡ length log.now)
+        × (sizes.shape.counters ≤ length next.now)
         × Enough
-        (results_of words.now counts.now rows.now next.now lengths.now (take plan.scratch answer.old)
-        plan.changed log.now) plan.scratch answer.old
+        (results_of sizes.words.now sizes.counts.now rows.now next.now sizes.lengths.now
+        (take scratch answer.old) changed log.now) scratch answer.old
         × (whole_length
-        (results_of words.now counts.now rows.now next.now lengths.now (take plan.scratch answer.old)
-        plan.changed log.now)
+        (results_of sizes.words.now sizes.counts.now rows.now next.now sizes.lengths.now
+        (take scratch answer.old) changed log.now)
         ≤ length answer.old) }
     ensures { answer.new ≡ answered
-        (results_of words.now counts.now rows.now
-        next.now lengths.now (take plan.scratch answer.old)
-        plan.changed log.now) (length answer.old) }
+        (results_of sizes.entry.words.now sizes.entry.counts.now rows.now next.now sizes.entry.lengths.now
+        (take scratch answer.old) changed log.now) (length answer.old) }
 {
-    let z = plan.shape;
-    let scratch = plan.scratch;
-    let used = log.len();
-    let tables = z.tables;
-    let counters = z.counters;
-    let n = tables + counters + z.steps + 1;
+    let shape = sizes.shape;
+    let n = sizes.bodies();
     let first = 1 + 3 * n;
-    let before = entries::length_of(words, counts, lengths, used, z, tables + counters);
-    bodies::shift(answer, scratch, first + before);
+    let before = sizes.length_of(shape.tables + shape.counters);
+    answer.copy_within(..scratch, first + before);
     answer[0] = n as u32;
-    entries::write_entries(words, counts, lengths, used, z, n, first, answer);
-    let p = bodies::write_tables(words, counts, rows, tables, first, answer);
-    put::write(&next[..counters], p, answer);
-    bodies::write_log(plan.changed, log, first + before + scratch, answer);
+    sizes.write_entries(n, first, answer);
+    let p = bodies::write_tables(sizes.words, sizes.counts, rows, shape.tables, first, answer);
+    put::write(&next[..shape.counters], p, answer);
+    bodies::write_log(changed, log, first + before + scratch, answer);
 }
 
 // The book's words, the rows after the commit, what the run left, and the step bodies, of `scratch` words in all, at the front of the answer.
@@ -80,7 +59,7 @@ pub fn assemble(
     lengths: &[u32],
     scratch: usize,
     answer: &mut [u32],
-) -> Assembled
+) -> Result<usize, Refusal>
     requires { Readable words.now × (state.used ≤ length log.now)
         × Enough (left_by words.now tables.now log.now lengths.now scratch answer.old done state) scratch
         answer.old }
@@ -95,25 +74,26 @@ pub fn assemble(
     let counters = state.counters;
     let next = counters.next;
     let counts = done.counts;
-    let z = entries::shape_of(words);
-    let n = z.tables + z.counters + z.steps + 1;
-    let total = 1 + 3 * n + entries::length_of(words, &counts, lengths, used, z, n);
+    let sizes = Sizes {
+        words,
+        counts: &counts,
+        lengths,
+        used,
+        shape: entries::shape_of(words),
+    };
+    let n = sizes.bodies();
+    let total = 1 + 3 * n + sizes.length_of(n);
     if answer.len() < total {
-        return Assembled::Over;
+        return Err(Refusal::AnswerFull);
     }
     fill(
-        words,
-        &counts,
+        sizes,
         tables,
         &next,
-        lengths,
         &log[..used],
-        Plan {
-            shape: z,
-            scratch,
-            changed: state.changed,
-        },
+        scratch,
+        state.changed,
         answer,
     );
-    Assembled::Words(total)
+    Ok(total)
 }

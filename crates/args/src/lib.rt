@@ -31,11 +31,8 @@ pub fn words_at(words: &[u32], at: usize, n: usize) -> Args
     requires { (n ≤ 16) × (at < 4294967296) }
     ensures { result ≡ words_at words.now at n }
 {
-    let mut vals = [0u32; 16];
-    let mut i = 0;
-    while i < n {
-        vals[i] = words::word(words, at + i);
-        i += 1;
-    }
+    let mut vals = [0; 16];
+    let there = words::part(words, at, n);
+    vals[..there.len()].copy_from_slice(there);
     Args { vals, count: n }
 }

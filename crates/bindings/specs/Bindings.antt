@@ -1,6 +1,5 @@
 -- What is kept beside the lent words.
-use Rattle.std.specs.Prelude.{ℕ}
-use Rattle.std.proofs.Math.Option.{Option}
+use Rattle.std.specs.Prelude.{ℕ, Option}
 use Rattle.bound_vars.specs.Bound.{binding}
 use Rattle.bindings.specs.declared.Bindings.{Bindings}
 

@@ -1,8 +1,7 @@
 // The bindings of a batch: 32 columns of 256 lent words, variable v in lane i at 256 * v + i; and what is kept beside them.
 #![tactic(auto)]
 
-ghost use Rattle.std.specs.Prelude.{◌≡◌, ◌+◌, ◌*◌, ◌^◌, ◌≤◌, ◌<◌, length, get_or, take};
-ghost use Rattle.std.proofs.Math.Option.{some};
+ghost use Rattle.std.specs.Prelude.{◌≡◌, ◌+◌, ◌*◌, ◌^◌, ◌≤◌, ◌<◌, length, get_or, take, Some};
 ghost use Rattle.words.specs.Filled.{filled};
 ghost use Rattle.bindings.specs.Bindings.{bound_in};
 ghost use Rattle.bindings.specs.Columns.{value_at, fetched, bound, loaded};
@@ -25,7 +24,7 @@ pub fn variable(bindings: &[u32], v: Variable, lane: Lane) -> u32
 }
 
 // What the entry whose tag stands at word p stands for in a lane: a variable, or the number itself. One test tells that both words are there.
-#[tactic(auto, using(crate::specs::ColumnLaws::const_entry), unfolding(crate::specs::Columns::value_at))]
+#[tactic(auto, unfolding(crate::specs::Columns::value_at))]
 fn value(words: &[u32], bindings: &[u32], lane: Lane, p: usize) -> u32
     requires { p + 1 < 2 ^ 64 }
     ensures { result ≡ value_at words.now bindings.now lane.0 p }
@@ -45,6 +44,7 @@ fn value(words: &[u32], bindings: &[u32], lane: Lane, p: usize) -> u32
 }
 
 // What `count` entries stand for in a lane, in place of the first `count` words of `out`; the first entry's tag stands at word `at`.
+#[tactic(auto, using(words::specs::Filled::filled_none, words::specs::Filled::filled_turn))]
 pub fn fetch_into(
     words: &[u32],
     bindings: &[u32],
@@ -57,19 +57,18 @@ pub fn fetch_into(
     ensures { out.new ≡ filled (λ k. value_at words.now bindings.now lane.0 (at + 2 * k))
         count out.old }
 {
-    let mut i = 0;
-    while i < count {
+    for i in 0..count {
         out[i] = value(words, bindings, lane, at + 2 * i);
-        i += 1;
     }
 }
 
 // The same in a short list of its own.
+#[tactic(auto, unfolding(crate::specs::Columns::fetched))]
 pub fn fetch(words: &[u32], bindings: &[u32], lane: Lane, at: usize, count: usize) -> Args
     requires { (count ≤ 16) × (at < 2 ^ 32) }
     ensures { result ≡ fetched words.now bindings.now lane.0 at count }
 {
-    let mut vals = [0u32; 16];
+    let mut vals = [0; 16];
     fetch_into(words, bindings, lane, at, count, &mut vals);
     Args { vals, count }
 }
@@ -80,23 +79,21 @@ fn bind(bindings: &mut [u32], dst: Variable, column: &[u32], lanes: usize)
     ensures { bindings.new ≡ bound dst.0 (take lanes column.now) bindings.old }
 {
     let at = 256 * words::size(dst.0);
-    let front = words::part(words::part(column, 0, lanes), 0, 256);
+    let front = words::part(column, 0, lanes.min(256));
     let end = at + front.len();
-    words::copy(front, bindings, at);
-    words::clear(&mut bindings[end..at + 256]);
+    bindings[at..end].copy_from_slice(front);
+    bindings[end..at + 256].fill(0);
 }
 
 // A batch's own columns: v of them, each of `lanes` words, from word `at` on.
+#[tactic(auto, unfolding(crate::specs::Columns::loaded))]
 pub fn load(words: &[u32], at: usize, v: u32, lanes: usize, bindings: &mut [u32])
     requires { (at + v * lanes ≤ length words.now) × (256 * v ≤ length bindings.old) }
     ensures { bindings.new ≡ loaded words.now at lanes v bindings.old }
 {
-    let mut p = at;
-    let mut c: u32 = 0;
-    while c < v {
+    for c in 0..v {
+        let p = at + words::size(c) * lanes;
         bind(bindings, Variable(c), &words[p..], lanes);
-        p += lanes;
-        c += 1;
     }
 }
 
@@ -111,14 +108,13 @@ impl Bindings {
     // The lanes' words of `column` become the column of a variable, which is bound then.
     pub fn insert(self, var: Variable, column: &[u32], columns: &mut [u32]) -> Self
         requires { (var.0 < 32) × (length columns.old ≡ 8192) }
-        ensures kept { result ≡ bound_in (some var.0) self }
+        ensures kept { result ≡ bound_in (Some var.0) self }
         ensures columns { columns.new ≡ bound var.0 (take self.matches column.now) columns.old }
     {
         bind(columns, var, column, self.matches);
-        let known = self.bound;
         Bindings {
             matches: self.matches,
-            bound: known.bind(var),
+            bound: self.bound.bind(var),
         }
     }
 }

@@ -1,6 +1,5 @@
 -- Which variables are bound.
-use Rattle.std.specs.Prelude.{ℕ, Bool, true, false, ltb, get_or, set}
-use Rattle.std.proofs.Math.Option.{Option, none, some}
+use Rattle.std.specs.Prelude.{ℕ, Bool, true, false, ltb, get_or, set, Option, None, Some}
 use Rattle.model.specs.Basics.{tab}
 use Rattle.bound_vars.specs.declared.Bound.{Bound}
 
@@ -13,5 +12,5 @@ first_bound n = record { known = tab (λ v. ltb v n) 32 }
 
 -- with one more
 abbrev pub binding : Option ℕ → Bound → Bound
-binding none b = b
-binding (some v) b = record { known = set b.known v true }
+binding None b = b
+binding (Some v) b = record { known = set b.known v true }

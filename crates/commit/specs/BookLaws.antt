@@ -1,6 +1,5 @@
 -- The tables of a book that draws none of refusals 2 to 6, as they stand in its words.
-use Rattle.std.specs.Prelude.{ℕ, ◌<◌, ◌≤◌, ◌≡◌, List}
-use Rattle.std.proofs.Math.Option.{none}
+use Rattle.std.specs.Prelude.{ℕ, ◌<◌, ◌≤◌, ◌≡◌, List, None}
 use Rattle.std.proofs.Common.{arith}
 use Rattle.model.specs.Basics.{All}
 use Rattle.model.specs.Book.Contents.{count, first_of, end_of, contents_refusal, table_count}
@@ -18,7 +17,7 @@ pub rows_wide : (w : List ℕ) (b : ℕ) → RowsStand w (info_at w b) → All (
 unfolding read_table
 rows_wide w b r = all_tab _ _ _ (λ i h. length_part w (row_place w b i) (info_at w b).width (omega (arith, row_within i (info_at w b).rows (info_at w b).width h, r.stands.rows)))
 
-module _ (w : List ℕ) (no_contents : contents_refusal w ≡ none) (no_bodies : bodies_refusal w ≡ none) where
+module _ (w : List ℕ) (no_contents : contents_refusal w ≡ None) (no_bodies : bodies_refusal w ≡ None) where
   pub ready_table : (t : ℕ) → t < table_count w → RowsStand w (info_of w t)
   ready_table t h =
       let r = table_read w no_contents no_bodies t h in

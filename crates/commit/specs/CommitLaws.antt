@@ -1,15 +1,14 @@
 -- The commit of a log that holds records is the model's: over exactly where its rows have no room, else its rows, table by table.
 use Prim.Native.Nat.{ℕ, zero, suc, ◌+◌, ◌<◌, ◌≤◌}
-use Rattle.std.specs.Prelude.{◌≡◌, ◌⊎◌, Bool, not, cond, ltb, eqb, get_or, set, take, drop, replicate}
+use Rattle.std.specs.Prelude.{◌≡◌, ◌⊎◌, Bool, not, cond, ltb, eqb, get_or, set, take, drop, replicate, None, Some, slice_get}
 use Rattle.std.proofs.Math.Path.{refl, ap}
 use Rattle.std.proofs.Common.{sym, ◌∙◌, inr, add-zero, length-append, get_or-drop, take_at, drop_at, take-take, drop-cons}
 use Rattle.std.proofs.Math.Logic.{inl}
 use Rattle.std.proofs.Math.Bool.{true, false}
-use Rattle.std.proofs.Math.Option.{none, some}
 use mathlib.Core.List.{List, [], ◌∷◌, ◌++◌, map, append-nil, append_assoc}
 use native.Mathlib.Omega.{arith}
 use borrow.Author.Tests.{lt-ltb, le-ltb, eqb-true, not-true}
-use Rattle.std.proofs.Math.ListN.{length, get_elem?}
+use Rattle.std.proofs.Math.ListN.{length}
 use Rattle.std.proofs.lemmas.List.{set_at}
 use Rattle.std.proofs.Math.Seq.{append_snoc}
 use Rattle.model.specs.Basics.{iter, when, found, keep_if, join, All, tab}
@@ -80,13 +79,13 @@ module _ (w : List ℕ) (rs : List Record) (sized : All (Sized w) rs) (base : Li
     Placed rows s = All (Wide i.width) rows × Laid base done rows s
 
     -- the log's rows
-    insert_laid : (n : ℕ) (rows : List (List ℕ)) (s : Rows) → n < length rs → Placed rows s → Placed (found (get_elem? rs n) (λ r. when (insertion t r) (put T.keys T.merge r.words) rows) (λ _. rows)) (insert_row log t i (place_of rs n) s)
+    insert_laid : (n : ℕ) (rows : List (List ℕ)) (s : Rows) → n < length rs → Placed rows s → Placed (found (slice_get rs n) (λ r. when (insertion t r) (put T.keys T.merge r.words) rows) (λ _. rows)) (insert_row log t i (place_of rs n) s)
     unfolding insert_row read_table
     insert_laid n rows s l h =
         let p = at_length rs n l in
         rw (p.1, insertion_is w rs sized n p.0 p.1 t) (by p.0 p.1 (insertion t p.0) refl)
       where
-        by : (r : Record) → get_elem? rs n ≡ some r → (b : Bool) → insertion t r ≡ b → Placed (when b (put i.keys i.merge r.words) rows) (when b (put_row i (part log (place_of rs n + 2) i.width)) s)
+        by : (r : Record) → slice_get rs n ≡ Some r → (b : Bool) → insertion t r ≡ b → Placed (when b (put i.keys i.merge r.words) rows) (when b (put_row i (part log (place_of rs n + 2) i.width)) s)
         by r e false q = h
         by r e true q =
             let d = and_split (eqb r.table t) (not (eqb r.kind 1)) q in
@@ -182,7 +181,7 @@ pub record Kept (T U : Table) : Type 0 where
   pub vals : U.vals ≡ T.vals
   pub merge : U.merge ≡ T.merge
 
-module _ (w : List ℕ) (no_contents : contents_refusal w ≡ none) (no_bodies : bodies_refusal w ≡ none) (rs : List Record) (sized : All (Sized w) rs) where
+module _ (w : List ℕ) (no_contents : contents_refusal w ≡ None) (no_bodies : bodies_refusal w ≡ None) (rs : List Record) (sized : All (Sized w) rs) where
   abbrev after : ℕ → Table
   after t = committed rs t (read_table w (first_of w t))
 

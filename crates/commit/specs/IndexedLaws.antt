@@ -1,11 +1,10 @@
 -- The index stays that of the rows: a row appended has the home of its key, and values that are merged are no words of a key.
 use Prim.Native.Nat.{ℕ, zero, suc, ◌+◌, ◌-◌, ◌*◌, ◌≤◌, ◌<◌}
-use Rattle.std.specs.Prelude.{◌≡◌, ◌≢◌, ◌⊎◌, Bool, cond, List, ◌++◌, get_or, take, replicate}
+use Rattle.std.specs.Prelude.{◌≡◌, ◌≢◌, ◌⊎◌, Bool, cond, List, ◌++◌, get_or, take, replicate, Option, None, Some}
 use Rattle.std.proofs.Math.Path.{refl, sym, ap}
 use Rattle.std.proofs.Common.{◌∙◌, zero-add, mul-le-mul_left, mul-one, add-one, arith}
 use Rattle.std.proofs.Math.Logic.{inl, inr}
 use Rattle.std.proofs.Math.Bool.{true, false}
-use Rattle.std.proofs.Math.Option.{Option, none, some}
 use Rattle.std.proofs.Math.Decide.{dec_lt}
 use Rattle.std.proofs.Math.Dec.{leb}
 use borrow.Author.Tests.{leb-true}
@@ -18,7 +17,6 @@ use Rattle.model.specs.Commit.{merge_words}
 use Rattle.model.specs.Laws.Iter.{iter_agree}
 use Rattle.words.specs.Filled.{tab_agree}
 use Rattle.tables.specs.declared.TableInfo.{TableInfo}
-use Rattle.tables.specs.declared.Found.TheVariants.{At, Nothing}
 use Rattle.tables.specs.Tables.{same_words, row_at, found_row}
 use Rattle.tables.specs.TablesLaws.{row_within}
 use Rattle.hash_index.specs.Index.{home_of, home_at, home_in, added, indexed}
@@ -59,13 +57,13 @@ same_keys : (w v : List ℕ) (t : TableInfo) (n : ℕ) → ((j k : ℕ) → j < 
 same_keys w v t n h = same_homes (home_in w t) (home_in v t) n (λ j l. ap home_of (tab_agree (λ k. get_or w (row_at t j + k) 0) (λ k. get_or v (row_at t j + k) 0) t.keys (λ k m. h j k l m)))
 
 -- what is found is a row
-found_place : (w : List ℕ) (t : TableInfo) (key : List ℕ) (p : ℕ) → found_row w t key ≡ At p → (r : ℕ) × (row_at t r ≡ p)
+found_place : (w : List ℕ) (t : TableInfo) (key : List ℕ) (p : ℕ) → found_row w t key ≡ Some p → (r : ℕ) × (row_at t r ≡ p)
 unfolding found_row
 found_place w t key p e = by (least (λ i. same_words w (row_at t i) key t.keys) t.rows) e
   where
-    by : (o : Option ℕ) → found o (λ i. At (row_at t i)) (λ _. Nothing) ≡ At p → (r : ℕ) × (row_at t r ≡ p)
-    by none g = let z : ◌≡◌ {A = ℕ} 0 1 = cc in absurd (omega arith)
-    by (some r) g = (r, cc)
+    by : (o : Option ℕ) → found o (λ i. Some (row_at t i)) (λ _. None) ≡ Some p → (r : ℕ) × (row_at t r ≡ p)
+    by None g = let z : ◌≡◌ {A = ℕ} 0 1 = cc in absurd (omega arith)
+    by (Some r) g = (r, cc)
 
 module _ (i : TableInfo) (ok : Sound i) (row : List ℕ) (len : length row ≡ i.width) (s : Rows) (st : Stand i.width s) where
   abbrev table : TableInfo
@@ -83,7 +81,7 @@ module _ (i : TableInfo) (ok : Sound i) (row : List ℕ) (len : length row ≡ i
           same : j ≡ r → ⊥
           same z = omega (arith, e, ap (λ (y : ℕ). y * i.width) z)
 
-  pub merge_indexed : (key : List ℕ) (p : ℕ) → found_row s.words table key ≡ At p → (n : ℕ) → index_for i s n ≡ index_for i (merged_at i row p s) n
+  pub merge_indexed : (key : List ℕ) (p : ℕ) → found_row s.words table key ≡ Some p → (n : ℕ) → index_for i s n ≡ index_for i (merged_at i row p s) n
   unfolding index_for
   merge_indexed key p e zero = refl
   merge_indexed key p e (suc n) =

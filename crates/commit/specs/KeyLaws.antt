@@ -1,9 +1,8 @@
 -- The gathered keys of a table's removals: a row's key is one of them where some record removes it, and there is room for them where there is for the log.
-use Rattle.std.specs.Prelude.{ℕ, ◌+◌, ◌*◌, ◌<◌, ◌≤◌, ◌≡◌, Bool, ◌&&◌, ◌||◌, eqb, get_or, take, drop}
+use Rattle.std.specs.Prelude.{ℕ, ◌+◌, ◌*◌, ◌<◌, ◌≤◌, ◌≡◌, Bool, ◌&&◌, ◌||◌, eqb, get_or, take, drop, Option, None, Some}
 use Rattle.std.proofs.Math.Path.{refl, sym, ap}
 use Rattle.std.proofs.Common.{◌∙◌, add-one, take_at, drop_at}
 use Rattle.std.proofs.Math.Bool.{true, false, or-false}
-use Rattle.std.proofs.Math.Option.{Option, none, some}
 use mathlib.Core.List.{List, [], ◌++◌}
 use native.Mathlib.Omega.{arith}
 use Rattle.std.proofs.Math.ListN.{length, length-append, length-drop}
@@ -13,7 +12,6 @@ use Rattle.model.specs.Basics.{when, eq_list, found, only, least}
 use Rattle.model.specs.Book.Decode.{part}
 use Rattle.model.specs.Laws.Iter.{iter_agree}
 use Rattle.model.specs.Laws.Bodies.{length_part}
-use Rattle.tables.specs.declared.Found.TheVariants.{At, Nothing}
 use Rattle.tables.specs.Tables.{info_of, front, same_words, found_row}
 use Rattle.tables.specs.TablesLaws.{next_row, row_within}
 use Rattle.record_log.specs.Walk.{end_of, is_removal, walked}
@@ -48,12 +46,12 @@ module _ (k : ℕ) (key : List ℕ) where
 
     among_more : among (with_key x s) ≡ among s || eq_list x (front key k)
     unfolding found_row
-    among_more = rw (add-one, iter_agree _ _ s.count none (λ j o l. ap (λ (b : Bool). found o some (λ _. only b (some j))) (before j l)), last) (by (least (λ j. same_words s.words (0 + j * k) key k) s.count) (eq_list x (front key k)))
+    among_more = rw (add-one, iter_agree _ _ s.count None (λ j o l. ap (λ (b : Bool). found o Some (λ _. only b (Some j))) (before j l)), last) (by (least (λ j. same_words s.words (0 + j * k) key k) s.count) (eq_list x (front key k)))
       where
-        by : (o : Option ℕ) (b : Bool) → is_there (found (found o some (λ _. only b (some s.count))) (λ j. At (0 + j * k)) (λ _. Nothing)) ≡ is_there (found o (λ j. At (0 + j * k)) (λ _. Nothing)) || b
-        by (some j) b = refl
-        by none true = refl
-        by none false = refl
+        by : (o : Option ℕ) (b : Bool) → is_there (found (found o Some (λ _. only b (Some s.count))) (λ j. Some (0 + j * k)) (λ _. None)) ≡ is_there (found o (λ j. Some (0 + j * k)) (λ _. None)) || b
+        by (Some j) b = refl
+        by None true = refl
+        by None false = refl
 
 -- ## All of them
 

@@ -1,10 +1,9 @@
 -- Rows laid out in the words that are lent for them, and the model's rows after one more.
-use Rattle.std.specs.Prelude.{ℕ, zero, suc, ◌+◌, ◌*◌, ◌<◌, ◌≤◌, ◌≡◌, ◌⊎◌, Bool, cond, List, [], ◌∷◌, ◌++◌, get_or, drop, set}
+use Rattle.std.specs.Prelude.{ℕ, zero, suc, ◌+◌, ◌*◌, ◌<◌, ◌≤◌, ◌≡◌, ◌⊎◌, Bool, cond, List, [], ◌∷◌, ◌++◌, get_or, drop, set, Option, None, Some}
 use Rattle.std.proofs.Math.Path.{refl, sym, ap}
 use Rattle.std.proofs.Common.{◌∙◌, append_assoc, append-nil, suc-mul, arith, length-set, length-take, length-drop, take-append-drop, take_at, drop_at, take-take, drop-drop}
 use Rattle.std.proofs.Math.Logic.{inl, inr}
 use Rattle.std.proofs.Math.Bool.{true, false}
-use Rattle.std.proofs.Math.Option.{Option, none, some}
 use Rattle.std.proofs.Math.Dec.{leb}
 use borrow.Author.Tests.{leb-true, leb-false}
 use Rattle.std.proofs.Math.ListN.{length, take, length-append}
@@ -16,8 +15,6 @@ use Rattle.model.specs.Commit.{merge_words, has_key, put}
 use Rattle.model.specs.Laws.Iter.{iter_agree}
 use Rattle.model.specs.Laws.Lists.{least_none, least_some}
 use Rattle.tables.specs.declared.TableInfo.{TableInfo}
-use Rattle.tables.specs.declared.Found.{Found}
-use Rattle.tables.specs.declared.Found.TheVariants.{At, Nothing}
 use Rattle.tables.specs.Tables.{same_words, row_at, found_row}
 use Rattle.tables.specs.TablesLaws.{front_take}
 use Rattle.commit.specs.Rows.{Rows, onto, new_info, appended, merged_at, put_at, put_row}
@@ -197,9 +194,9 @@ module _ (base : List ℕ) where
           let a : part words (row_at info j) k ≡ take k (get_or rs j []) = sym (take-take k i.width (drop (row_at info j) words) keys) ∙ ap (take k) (row_at_lem j l) in
           rw (a, front_take row k (omega arith))
 
-      found_is : found_row words info row ≡ found (least has_at (length rs)) (λ j. At (row_at info j)) (λ _. Nothing)
+      found_is : found_row words info row ≡ found (least has_at (length rs)) (λ j. Some (row_at info j)) (λ _. None)
       unfolding found_row
-      found_is = ap (λ (o : Option ℕ). found o (λ j. At (row_at info j)) (λ _. Nothing)) (iter_agree _ _ (length rs) none (λ j o l. ap (λ (b : Bool). found o some (λ _. only b (some j))) (same_key j l)))
+      found_is = ap (λ (o : Option ℕ). found o (λ j. Some (row_at info j)) (λ _. None)) (iter_agree _ _ (length rs) None (λ j o l. ap (λ (b : Bool). found o Some (λ _. only b (Some j))) (same_key j l)))
 
       -- another row in the place of row j
       module _ (j : ℕ) (l : j < length rs) where
@@ -241,9 +238,9 @@ module _ (base : List ℕ) where
       unfolding put_row
       put_here h = rw found_is (by (least has_at (length rs)) refl)
         where
-          by : (o : Option ℕ) → least has_at (length rs) ≡ o → Laid done (put k i.merge row rs) (put_at (found o (λ j. At (row_at info j)) (λ _. Nothing)) i row (laid done rs))
-          by none e = rw (put_last k i.merge row rs (least_none has_at (length rs) e)) (append_here row h)
-          by (some j) e =
+          by : (o : Option ℕ) → least has_at (length rs) ≡ o → Laid done (put k i.merge row rs) (put_at (found o (λ j. Some (row_at info j)) (λ _. None)) i row (laid done rs))
+          by None e = rw (put_last k i.merge row rs (least_none has_at (length rs) e)) (append_here row h)
+          by (Some j) e =
               let f = least_some has_at (length rs) j e in
               rw (put_first k i.merge row rs j f.below f.here f.before) (merge_laid j f.below h)
 
@@ -251,9 +248,9 @@ module _ (base : List ℕ) where
       unfolding put_row
       put_over s o = by (found_row s.words (new_info i s.part) row)
         where
-          by : (f : Found) → (put_at f i row s).part.over ≡ true
-          by (At p) = o
-          by Nothing = still_over row s o
+          by : (f : Option ℕ) → (put_at f i row s).part.over ≡ true
+          by (Some p) = o
+          by None = still_over row s o
 
       pub put_laid : (s : Rows) → Laid done rs s → Laid done (put k i.merge row rs) (put_row i row s)
       put_laid s (inl (h, e)) = rw e (put_here h)

@@ -2,9 +2,11 @@ pub mod Rows
 pub mod Indexed
 pub mod Walk
 pub mod Commit
+pub mod MergeRule
 pub mod MergeLaws
 pub mod RowLaws
 pub mod IndexedLaws
+pub mod Places
 pub mod WalkLaws
 pub mod KeyLaws
 pub mod TableLaws

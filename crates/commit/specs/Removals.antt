@@ -1,9 +1,7 @@
 -- The model's removals keep the rows that no removal names, and these are the rows that the code keeps.
-use Rattle.std.specs.Prelude.{ℕ, zero, suc, ◌+◌, ◌<◌, ◌≡◌, refl, Bool, true, ◌&&◌, ◌||◌, not, List, [], ◌∷◌, ◌++◌, eqb, length, take}
+use Rattle.std.specs.Prelude.{ℕ, zero, suc, ◌+◌, ◌<◌, ◌≡◌, refl, Bool, true, ◌&&◌, ◌||◌, not, List, [], ◌∷◌, ◌++◌, eqb, length, take, Option, None, Some, slice_get}
 use Rattle.std.proofs.Common.{sym, ap, ◌∙◌, eqb-true}
 use Rattle.std.proofs.Math.Bool.{false}
-use Rattle.std.proofs.Math.Option.{Option, none, some}
-use Rattle.std.proofs.Math.ListN.{get_elem?}
 use Rattle.model.specs.Basics.{iter, when, found, eq_list, keep_if, All}
 use Rattle.model.specs.Book.Syntax.{Table}
 use Rattle.model.specs.Book.Decode.{part}
@@ -68,15 +66,15 @@ removal_remain k key p false rows = remain_agree p (λ r. p r || false) (λ r. o
 module _ (log : List Record) (t : ℕ) (T : Table) where
   -- a removal of the first n records names the row
   abbrev pub named : ℕ → List ℕ → Bool
-  named n row = iter (λ i b. b || found (get_elem? log i) (λ r. removal t r && has_key T.keys r.words row) (λ _. false)) n false
+  named n row = iter (λ i b. b || found (slice_get log i) (λ r. removal t r && has_key T.keys r.words row) (λ _. false)) n false
 
   pub removals_remain : (n : ℕ) (rows : List (List ℕ)) → removals log t T n rows ≡ remain (named n) rows
   removals_remain zero rows = sym (remain_none rows)
-  removals_remain (suc n) rows = rw (removals_remain n rows) (by (get_elem? log n))
+  removals_remain (suc n) rows = rw (removals_remain n rows) (by (slice_get log n))
     where
       by : (o : Option Record) → found o (λ r. when (removal t r) (without T.keys r.words) (remain (named n) rows)) (λ _. remain (named n) rows) ≡ remain (λ row. named n row || found o (λ r. removal t r && has_key T.keys r.words row) (λ _. false)) rows
-      by none = remain_agree (named n) (λ row. named n row || false) (λ row. or_false (named n row)) rows
-      by (some r) = removal_remain T.keys r.words (named n) (removal t r) rows
+      by None = remain_agree (named n) (λ row. named n row || false) (λ row. or_false (named n row)) rows
+      by (Some r) = removal_remain T.keys r.words (named n) (removal t r) rows
 
 -- ## The code's
 
@@ -92,12 +90,12 @@ eq_list_swap a b = by (eq_list a b) (eq_list b a) refl refl
 module _ (w : List ℕ) (rs : List Record) (sized : All (Sized w) rs) (t : ℕ) (T : Table) (keys : T.keys ≡ (info_of w t).keys) where
   -- a row whose key is `key`
   module _ (row key : List ℕ) (is_key : take T.keys row ≡ key) where
-    one : (n : ℕ) (b : Bool) → n < length rs → remove_turn (records_of rs) t T.keys key (place_of rs n) b ≡ b || found (get_elem? rs n) (λ r. removal t r && has_key T.keys r.words row) (λ _. false)
+    one : (n : ℕ) (b : Bool) → n < length rs → remove_turn (records_of rs) t T.keys key (place_of rs n) b ≡ b || found (slice_get rs n) (λ r. removal t r && has_key T.keys r.words row) (λ _. false)
     one n b h =
         let p = at_length rs n h in
         rw (p.1, removal_is w rs sized n p.0 p.1 t) (ap (λ (x : Bool). b || x) (by p.0 p.1 (removal t p.0) refl))
       where
-        by : (r : Record) → get_elem? rs n ≡ some r → (x : Bool) → removal t r ≡ x → x && eq_list (part (records_of rs) (place_of rs n + 2) T.keys) key ≡ x && has_key T.keys r.words row
+        by : (r : Record) → slice_get rs n ≡ Some r → (x : Bool) → removal t r ≡ x → x && eq_list (part (records_of rs) (place_of rs n + 2) T.keys) key ≡ x && has_key T.keys r.words row
         by r e false q = refl
         by r e true q =
             let s = and_split (eqb r.table t) (eqb r.kind 1) q in

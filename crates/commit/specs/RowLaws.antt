@@ -1,5 +1,5 @@
 -- What the code that appends and puts rows leans on.
-use Rattle.std.specs.Prelude.{ℕ, ◌+◌, ◌<◌, ◌≤◌, ◌≡◌, refl, Bool, true, false, cond, List, ◌++◌, leb, length, get_or, drop, replicate}
+use Rattle.std.specs.Prelude.{ℕ, ◌+◌, ◌<◌, ◌≤◌, ◌≡◌, refl, Bool, true, false, cond, List, ◌++◌, leb, length, get_or, drop, replicate, Option, Some, None}
 use Rattle.std.proofs.Common.{sym, ap, ◌∙◌, mul-le-mul_left, mul-one, arith, leb-true, length-append, length-drop, take_at, drop-drop}
 use Rattle.std.proofs.Math.Seq.{paste, take-length, drop-append-add, length-sets}
 use Rattle.std.proofs.lemmas.List.Edits.{length-paste}
@@ -8,8 +8,6 @@ use Rattle.model.specs.Book.Decode.{part}
 use Rattle.model.specs.Commit.{merge_words}
 use Rattle.words.specs.Filled.{filled}
 use Rattle.tables.specs.declared.TableInfo.{TableInfo}
-use Rattle.tables.specs.declared.Found.{Found}
-use Rattle.tables.specs.declared.Found.TheVariants.{At, Nothing}
 use Rattle.tables.specs.Tables.{Stands, front, same_words, row_at, found_row}
 use Rattle.tables.specs.TablesLaws.{front_take, key_front, next_row}
 use Rattle.commit.specs.Rows.{Rows, Sound, Stand, onto, grown, overrun, new_info, appended, put_at, put_row}
@@ -19,7 +17,7 @@ use Rattle.commit.specs.Rows.{Rows, Sound, Stand, onto, grown, overrun, new_info
 -- a search goes by the key's words alone
 found_same : (w : List ℕ) (t : TableInfo) (a b : List ℕ) → front a t.keys ≡ front b t.keys → found_row w t a ≡ found_row w t b
 unfolding found_row same_words
-found_same w t a b e = ap (λ (key : List ℕ). found (least (λ i. eq_list (part w (row_at t i) t.keys) key) t.rows) (λ i. At (row_at t i)) (λ _. Nothing)) e
+found_same w t a b e = ap (λ (key : List ℕ). found (least (λ i. eq_list (part w (row_at t i) t.keys) key) t.rows) (λ i. Some (row_at t i)) (λ _. None)) e
 
 pub key_found : (w : List ℕ) (t : TableInfo) (row key : List ℕ) → key ≡ filled (λ i. get_or row i 0) t.keys (replicate 16 0) → t.keys ≤ length row → t.keys ≤ 16 → found_row w t row ≡ found_row w t key
 key_found w t row key e h l = found_same w t row key (front_take row t.keys h ∙ sym (ap (λ (x : List ℕ). front x t.keys) e ∙ key_front row t.keys h l))
@@ -36,9 +34,9 @@ module _ (base x : List ℕ) where
 
 -- ## Rows that stand
 
-module _ {width : ℕ} (some : 0 < width) {s : Rows} (st : Stand width s) where
+module _ {width : ℕ} (Some : 0 < width) {s : Rows} (st : Stand width s) where
   pub few_rows : s.part.count ≤ length s.words
-  few_rows = omega (arith, st.used, st.within, mul-le-mul_left s.part.count some, mul-one s.part.count)
+  few_rows = omega (arith, st.used, st.within, mul-le-mul_left s.part.count Some, mul-one s.part.count)
 
 pub new_stands : {i : TableInfo} {s : Rows} → Sound i → Stand i.width s → Stands s.words (new_info i s.part)
 new_stands {i} {s} ok st = record { rows = omega (arith, st.used, st.within); keys = ok.keys; few = ok.few }
@@ -66,8 +64,8 @@ pub put_keeps : (i : TableInfo) (row : List ℕ) → length row ≡ i.width → 
 unfolding put_row
 put_keeps i row len s st = by (found_row s.words (new_info i s.part) row)
   where
-    by : (o : Found) → Keeps i.width s (put_at o i row s)
-    by Nothing = append_keeps row len s st
-    by (At p) =
+    by : (o : Option ℕ) → Keeps i.width s (put_at o i row s)
+    by None = append_keeps row len s st
+    by (Some p) =
         let n = length-sets s.words (p + i.keys) (merge_words i.merge (part s.words (p + i.keys) (length (drop i.keys row))) (drop i.keys row)) in
         (record { used = st.used; within = omega (arith, st.within) }, n)

@@ -1,12 +1,10 @@
 -- A table's rows among the words that are lent for all rows: a row appended, and a row merged into the one that has its key.
-use Rattle.std.specs.Prelude.{ℕ, ◌+◌, ◌*◌, ◌<◌, ◌≤◌, ◌≡◌, true, false, cond, List, ◌++◌, leb, length, drop}
+use Rattle.std.specs.Prelude.{ℕ, ◌+◌, ◌*◌, ◌<◌, ◌≤◌, ◌≡◌, true, false, cond, List, ◌++◌, leb, length, drop, Option, Some, None}
 use Rattle.std.proofs.lemmas.List.Edits.{sets}
 use Rattle.std.proofs.Math.Seq.{paste}
 use Rattle.model.specs.Book.Decode.{part}
 use Rattle.model.specs.Commit.{merge_words}
 use Rattle.tables.specs.declared.TableInfo.{TableInfo}
-use Rattle.tables.specs.declared.Found.{Found}
-use Rattle.tables.specs.declared.Found.TheVariants.{At, Nothing}
 use Rattle.tables.specs.Tables.{found_row}
 use Rattle.commit.specs.declared.rows.Part.{Part}
 
@@ -60,9 +58,9 @@ new_info i p = record { keys = i.keys; width = i.width; merge = i.merge; rows = 
 abbrev pub merged_at : TableInfo → List ℕ → ℕ → Rows → Rows
 merged_at i row p s = record { words = sets s.words (p + i.keys) (merge_words i.merge (part s.words (p + i.keys) (length (drop i.keys row))) (drop i.keys row)); part = s.part }
 
-abbrev pub put_at : Found → TableInfo → List ℕ → Rows → Rows
-put_at (At p) i row s = merged_at i row p s
-put_at Nothing i row s = appended row s
+abbrev pub put_at : Option ℕ → TableInfo → List ℕ → Rows → Rows
+put_at (Some p) i row s = merged_at i row p s
+put_at None i row s = appended row s
 
 unfoldable pub put_row : TableInfo → List ℕ → Rows → Rows
 put_row i row s = put_at (found_row s.words (new_info i s.part) row) i row s

@@ -1,11 +1,9 @@
 -- The log is walked record by record: which rows are removed, and which are put into a table.
-use Rattle.std.specs.Prelude.{ℕ, ◌+◌, ◌*◌, Bool, true, false, ◌&&◌, ◌||◌, List, [], ◌++◌, eqb, length, get_or}
+use Rattle.std.specs.Prelude.{ℕ, ◌+◌, ◌*◌, Bool, true, false, ◌&&◌, ◌||◌, List, [], ◌++◌, eqb, length, get_or, Option, Some, None}
 use Rattle.std.proofs.Math.Seq.{paste}
 use Rattle.model.specs.Basics.{when, eq_list}
 use Rattle.model.specs.Book.Decode.{part}
 use Rattle.tables.specs.declared.TableInfo.{TableInfo}
-use Rattle.tables.specs.declared.Found.{Found}
-use Rattle.tables.specs.declared.Found.TheVariants.{At, Nothing}
 use Rattle.tables.specs.Tables.{info_of}
 use Rattle.record_log.specs.Walk.{end_of, walked, is_removal, is_insertion}
 use Rattle.commit.specs.Rows.{Rows, onto, put_row}
@@ -74,6 +72,6 @@ gone_after w log t gone = onto gone (removed_keys w log t (info_of w t).keys).wo
 abbrev pub key_table : ℕ → ℕ → TableInfo
 key_table k n = record { keys = k; width = k; merge = 0; rows = n; at = 0 }
 
-abbrev pub is_there : Found → Bool
-is_there (At p) = true
-is_there Nothing = false
+abbrev pub is_there : Option ℕ → Bool
+is_there (Some p) = true
+is_there None = false

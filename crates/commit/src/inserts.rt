@@ -13,26 +13,7 @@ use tables::TableInfo;
 fn serves(log: usize, count: usize) -> bool
     ensures { result ≡ (leb 512 log || (leb 128 log && leb 64 count)) }
 {
-    (512 <= log) | ((128 <= log) & (64 <= count))
-}
-
-// By an index that is made for it.
-fn insert_indexed(
-    words: &[u32],
-    log: &[u32],
-    t: TableId,
-    info: TableInfo,
-    rows: &mut [u32],
-    start: Part,
-) -> Part
-    requires { (info ≡ info_of words.now t.0) × Sound info × Stand info.width (as_rows rows.old start)
-        × (length rows.old ≤ 16384) }
-    ensures { as_rows rows.new result ≡ inserted words.now log.now t.0 info
-        (as_rows rows.old start) }
-{
-    let mut index = [0u32; 18432];
-    hash_index::build(rows, rows::table_of(info, start), &mut index);
-    records::insert_all(words, log, t, info, rows, &mut index, start)
+    512 <= log || (128 <= log && 64 <= count)
 }
 
 // The rows of all records that are some of table t, in the log's order.
@@ -42,16 +23,18 @@ pub fn insert_rows(
     t: TableId,
     info: TableInfo,
     rows: &mut [u32],
-    start: Part,
-) -> Part
-    requires { (info ≡ info_of words.now t.0) × Sound info × Stand info.width (as_rows rows.old start)
+    part: &mut Part,
+)
+    requires { (info ≡ info_of words.now t.0) × Sound info × Stand info.width (as_rows rows.old part.old)
         × (length rows.old ≤ 16384) }
-    ensures { as_rows rows.new result ≡ inserted words.now log.now t.0 info
-        (as_rows rows.old start) }
+    ensures { as_rows rows.new part.new ≡ inserted words.now log.now t.0 info
+        (as_rows rows.old part.old) }
 {
-    if serves(log.len(), start.count) {
-        return insert_indexed(words, log, t, info, rows, start);
+    if serves(log.len(), part.count) {
+        let mut index = [0u32; 18432];
+        hash_index::build(rows, rows::table_of(info, *part), &mut index);
+        records::insert_all(words, log, t, info, rows, &mut index, part)
+    } else {
+        records::insert_all(words, log, t, info, rows, &mut [], part)
     }
-    let mut none = [0u32; 0];
-    records::insert_all(words, log, t, info, rows, &mut none, start)
 }

@@ -8,7 +8,6 @@ mod removals;
 mod rows;
 
 ghost use Rattle.std.specs.Prelude.{◌≡◌, false, ◌||◌, ℕ, ◌<◌, ◌≤◌, leb, length};
-ghost use Rattle.model.specs.Basics.{iter};
 ghost use Rattle.tables.specs.Tables.{info_of, RowsStand};
 ghost use Rattle.commit.specs.Walk.{any_removal, gone_after};
 ghost use Rattle.commit.specs.Commit.{table_committed, committed_rows, as_left};
@@ -31,79 +30,78 @@ fn commit_table(
     t: TableId,
     gone: &mut [u32],
     rows: &mut [u32],
-    mut done: Committed,
+    done: &mut Committed,
     removes: bool,
-) -> Committed
+)
     requires { (t.0 < 16) × RowsStand words.now (info_of words.now t.0) × (length log.now ≤ length gone.old)
-        × (length log.now ≤ 16384) × (done.used ≤ length rows.old) × (length rows.old ≤ 16384)
+        × (length log.now ≤ 16384) × (done.old.used ≤ length rows.old) × (length rows.old ≤ 16384)
         × (removes ≡ false → any_removal words.now log.now ≡ false) }
-    ensures rows { as_left rows.new result ≡ table_committed words.now log.now t.0
-        (as_left rows.old done) }
+    ensures rows { as_left rows.new done.new ≡ table_committed words.now log.now t.0
+        (as_left rows.old done.old) }
     ensures gone { gone.new ≡ gone_after words.now log.now t.0 gone.old }
 {
     let info = tables::info_of(words, t);
-    let start = Part {
+    let mut part = Part {
         count: 0,
         used: done.used,
-        from: done.used as u32,
+        from: done.used,
         over: done.over,
     };
-    let old = removals::keep(words, log, t, info, gone, rows, start, removes);
-    let all = inserts::insert_rows(words, log, t, info, rows, old);
-    let place = words::size(t.0);
-    done.counts[place] = all.count as u32;
-    done.used = all.used;
-    done.over = all.over;
-    done
+    removals::keep(words, log, t, info, gone, rows, &mut part, removes);
+    inserts::insert_rows(words, log, t, info, rows, &mut part);
+    done.counts[words::size(t.0)] = part.count as u32;
+    done.used = part.used;
+    done.over = part.over;
 }
 
 // Whether the log may have a removal. One table finds out by its own walk; several are spared theirs.
 fn may_remove(words: &[u32], tables: usize, log: &[u32]) -> bool
     ensures { result ≡ (leb tables 1 || any_removal words.now log.now) }
 {
-    if tables <= 1 {
-        return true;
-    }
-    records::any_removal(words, log)
+    tables <= 1 || records::any_removal(words, log)
 }
 
-// All tables of the book, with the words of the log's records. Where `over` says that a row had no room, the rows are not whole. `gone` is lent for the keys of removals.
-fn commit_all(
+// All tables of the book, with the words of the log's records. Where `over` says that a row had no room, the rows are not whole. The keys of removals go into an array of N words.
+fn commit_all<const N: usize>(
     words: &[u32],
     tables: usize,
     log: &[u32],
-    gone: &mut [u32],
     rows: &mut [u32],
 ) -> Committed
-    requires { (tables ≤ 16) × (length log.now ≤ 16384) × (length log.now ≤ length gone.old) × (length rows.old ≤ 16384)
+    requires { (tables ≤ 16) × (length log.now ≤ N) × (N ≤ 16384) × (length rows.old ≤ 16384)
         × ((t : ℕ) → t < tables → RowsStand words.now (info_of words.now t)) }
-    ensures rows { as_left rows.new result ≡ committed_rows words.now tables log.now rows.old }
-    ensures gone { gone.new ≡ iter (gone_after words.now log.now) tables gone.old }
+    ensures { as_left rows.new result ≡ committed_rows words.now tables log.now rows.old }
 {
     let removes = may_remove(words, tables, log);
+    let mut gone = [0u32; N];
     let mut done = Committed {
         counts: [0u32; 16],
         used: 0,
         over: false,
     };
-    let mut t = 0;
-    while t < tables {
-        done = commit_table(words, log, TableId(t as u32), gone, rows, done, removes);
-        t += 1;
+    for t in 0..tables {
+        commit_table(
+            words,
+            log,
+            TableId(t as u32),
+            &mut gone,
+            rows,
+            &mut done,
+            removes,
+        );
     }
     done
 }
 
-// The same, with an array of its own for the keys of removals: a small one for a small log, since clearing it takes less time.
+// The same, with a small array for a small log, since clearing it takes less time.
 pub fn commit(words: &[u32], tables: usize, log: &[u32], rows: &mut [u32]) -> Committed
     requires { (tables ≤ 16) × (length log.now ≤ 16384) × (length rows.old ≤ 16384)
         × ((t : ℕ) → t < tables → RowsStand words.now (info_of words.now t)) }
     ensures { as_left rows.new result ≡ committed_rows words.now tables log.now rows.old }
 {
     if log.len() <= 1024 {
-        let mut few = [0u32; 1024];
-        return commit_all(words, tables, log, &mut few, rows);
+        commit_all::<1024>(words, tables, log, rows)
+    } else {
+        commit_all::<16384>(words, tables, log, rows)
     }
-    let mut gone = [0u32; 16384];
-    commit_all(words, tables, log, &mut gone, rows)
 }

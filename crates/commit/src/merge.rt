@@ -1,18 +1,43 @@
 // A row's values merged with those of a new row that has the same key.
-ghost use Rattle.std.specs.Prelude.{◌≡◌, ◌+◌, ◌≤◌, length};
+ghost use Rattle.std.specs.Prelude.{◌≡◌, ℕ, ◌+◌, ◌≤◌, length};
 ghost use Rattle.std.proofs.lemmas.List.Edits.{sets};
 ghost use Rattle.model.specs.Book.Decode.{part};
 ghost use Rattle.model.specs.Commit.{merge_word, merge_words};
+ghost use Rattle.commit.specs.MergeRule.{merge_by};
 
-// What a table's rule makes of two values: 1 takes the new one, 2 the smaller, 3 the larger, and 0 stays with the old.
-fn merge_word(rule: u32, old: u32, new: u32) -> u32
-    ensures { result ≡ merge_word rule old new }
-{
-    match rule {
-        1 => new,
-        2 => { if new < old { new } else { old } }
-        3 => { if old < new { new } else { old } }
-        _ => old,
+// What a table makes of a row's value and a new one.
+#[derive(Clone, Copy)]
+enum MergeRule {
+    Old,
+    New,
+    Smaller,
+    Larger,
+}
+
+// By its number in a book, where 0 is the old value's; past 3 there is none.
+impl From<u32> for MergeRule {
+    ghost from_gives = { λ number rule. (old new : ℕ) → merge_by rule old new ≡ merge_word number old new };
+
+    fn from(number: u32) -> MergeRule {
+        match number {
+            1 => MergeRule::New,
+            2 => MergeRule::Smaller,
+            3 => MergeRule::Larger,
+            _ => MergeRule::Old,
+        }
+    }
+}
+
+impl MergeRule {
+    fn merge(self, old: u32, new: u32) -> u32
+        ensures { result ≡ merge_by self old new }
+    {
+        match self {
+            MergeRule::Old => old,
+            MergeRule::New => new,
+            MergeRule::Smaller => old.min(new),
+            MergeRule::Larger => old.max(new),
+        }
     }
 }
 
@@ -23,10 +48,8 @@ pub fn merge_words(rows: &mut [u32], at: usize, new: &[u32], rule: u32)
         (merge_words rule (part rows.old at (length new.now))
         new.now) }
 {
-    let n = new.len();
-    let mut i = 0;
-    while i < n {
-        rows[at + i] = merge_word(rule, rows[at + i], new[i]);
-        i += 1;
+    let rule = MergeRule::from(rule);
+    for (i, word) in new.iter().enumerate() {
+        rows[at + i] = rule.merge(rows[at + i], *word);
     }
 }

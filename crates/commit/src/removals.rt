@@ -7,10 +7,11 @@ ghost use Rattle.record_log.specs.Walk.{is_removal};
 ghost use Rattle.commit.specs.Walk.{any_removal, store_turn, removed_keys, laid_onto, gone_after, as_keys};
 ghost use Rattle.commit.specs.Commit.{kept, spare_row, spared};
 
+use crate::records::Places;
 use crate::rows;
 use crate::rows::Part;
 use ids::TableId;
-use tables::{Found, TableInfo};
+use tables::TableInfo;
 
 // If the record at p is a removal of table t, its key, of k words, is put into `gone`, past the n that are there; and how many are there then.
 fn gather(log: &[u32], p: usize, t: TableId, k: usize, gone: &mut [u32], n: usize) -> usize
@@ -18,15 +19,10 @@ fn gather(log: &[u32], p: usize, t: TableId, k: usize, gone: &mut [u32], n: usiz
         × (is_removal log.now t.0 p ≡ true → p + 2 + k ≤ length log.now) }
     ensures { as_keys gone.new result ≡ store_turn log.now t.0 k p (as_keys gone.old n) }
 {
-    if words::word(log, p + 1) != t.0 {
+    if words::word(log, p + 1) != t.0 || words::word(log, p) != 1 {
         return n;
     }
-    if words::word(log, p) != 1 {
-        return n;
-    }
-    let from = p + 2;
-    let end = from + k;
-    words::copy(&log[from..end], gone, n * k);
+    words::copy(&log[p + 2..p + 2 + k], gone, n * k);
     n + 1
 }
 
@@ -38,12 +34,8 @@ fn gather_all(words: &[u32], log: &[u32], t: TableId, k: usize, gone: &mut [u32]
         (removed_keys words.now log.now t.0 k)) }
 {
     let mut n = 0;
-    let mut p = 0;
-    let mut end = record_log::end_of(words, log, 0);
-    while end <= log.len() {
+    for p in Places::of(words, log) {
         n = gather(log, p, t, k, gone, n);
-        p = end;
-        end = record_log::end_of(words, log, p);
     }
     n
 }
@@ -64,9 +56,10 @@ fn gather_if(
         (removed_keys words.now log.now t.0 k)) }
 {
     if removes {
-        return gather_all(words, log, t, k, gone);
+        gather_all(words, log, t, k, gone)
+    } else {
+        0
     }
-    0
 }
 
 // An old row, unless its key is that of a row of the table `removed`, whose rows are the words `gone`. An empty index is none.
@@ -76,17 +69,17 @@ fn keep_row(
     index: &[u32],
     removed: TableInfo,
     rows: &mut [u32],
-    part: Part,
-) -> Part
+    part: &mut Part,
+)
     requires { Stands gone.now removed × IndexOf gone.now removed index.now × (removed.keys ≤ length row.now)
-        × (part.used ≤ length rows.old) × (part.count ≤ length rows.old) }
-    ensures { as_rows rows.new result ≡ spare_row gone.now removed row.now
-        (as_rows rows.old part) }
+        × (part.old.used ≤ length rows.old) × (part.old.count ≤ length rows.old) }
+    ensures { as_rows rows.new part.new ≡ spare_row gone.now removed row.now
+        (as_rows rows.old part.old) }
 {
     let key = tables::key_of(row, removed.keys);
     match hash_index::look_up(gone, index, removed, &key) {
-        Found::At(_) => part,
-        Found::Nothing => rows::append(rows, part, row),
+        Some(_) => {}
+        None => rows::append(rows, part, row),
     }
 }
 
@@ -98,54 +91,24 @@ fn keep_all(
     removed: TableInfo,
     info: TableInfo,
     rows: &mut [u32],
-    start: Part,
-) -> Part
+    part: &mut Part,
+)
     requires { RowsStand words.now info × Stands gone.now removed × IndexOf gone.now removed index.now
-        × (removed.keys ≤ info.width) × Stand info.width (as_rows rows.old start) }
-    ensures { as_rows rows.new result ≡ spared gone.now removed words.now info.at info.width
-        info.rows (as_rows rows.old start) }
+        × (removed.keys ≤ info.width) × Stand info.width (as_rows rows.old part.old) }
+    ensures { as_rows rows.new part.new ≡ spared gone.now removed words.now info.at info.width
+        info.rows (as_rows rows.old part.old) }
 {
-    let n = info.rows;
-    let width = info.width;
-    let mut at = info.at;
-    let mut part = start;
-    let mut i = 0;
-    while i < n {
-        let end = at + width;
-        part = keep_row(&words[at..end], gone, index, removed, rows, part);
-        at = end;
-        i += 1;
+    let end = info.at + info.rows * info.width;
+    for row in words[info.at..end].chunks_exact(info.width) {
+        keep_row(row, gone, index, removed, rows, part);
     }
-    part
 }
 
 // Whether there are keys and rows enough: each row is compared with each key where there is no index.
 fn serves(keys: usize, rows: usize) -> bool
     ensures { result ≡ (leb 16 keys && leb (4096 / keys) rows) }
 {
-    if keys < 16 {
-        return false;
-    }
-    4096 / keys <= rows
-}
-
-// By an index that is made for it.
-fn keep_indexed(
-    words: &[u32],
-    gone: &[u32],
-    removed: TableInfo,
-    info: TableInfo,
-    rows: &mut [u32],
-    start: Part,
-) -> Part
-    requires { RowsStand words.now info × Stands gone.now removed × (removed.rows ≤ 16384) × (removed.keys ≤ info.width)
-        × Stand info.width (as_rows rows.old start) }
-    ensures { as_rows rows.new result ≡ spared gone.now removed words.now info.at info.width
-        info.rows (as_rows rows.old start) }
-{
-    let mut index = [0u32; 18432];
-    hash_index::build(gone, removed, &mut index);
-    keep_all(words, gone, &index, removed, info, rows, start)
+    16 <= keys && 4096 / keys <= rows
 }
 
 // A table's old rows that no removal names. `gone` is lent for the removed keys: a table's rows, of which no word is a value. Where `removes` is false the log has none.
@@ -156,18 +119,17 @@ pub fn keep(
     info: TableInfo,
     gone: &mut [u32],
     rows: &mut [u32],
-    start: Part,
+    part: &mut Part,
     removes: bool,
-) -> Part
+)
     requires { (info ≡ info_of words.now t.0) × RowsStand words.now info × (length log.now ≤ length gone.old)
-        × (length log.now ≤ 16384) × Stand info.width (as_rows rows.old start)
+        × (length log.now ≤ 16384) × Stand info.width (as_rows rows.old part.old)
         × (removes ≡ false → any_removal words.now log.now ≡ false) }
-    ensures rows { as_rows rows.new result ≡ kept words.now log.now t.0 info info.rows
-        (as_rows rows.old start) }
+    ensures rows { as_rows rows.new part.new ≡ kept words.now log.now t.0 info info.rows
+        (as_rows rows.old part.old) }
     ensures gone { gone.new ≡ gone_after words.now log.now t.0 gone.old }
 {
     let n = gather_if(words, log, t, info.keys, gone, removes);
-    let end = n * info.keys;
     let removed = TableInfo {
         keys: info.keys,
         width: info.keys,
@@ -175,9 +137,12 @@ pub fn keep(
         rows: n,
         at: 0,
     };
+    let gone = &gone[..n * info.keys];
     if serves(n, info.rows) {
-        return keep_indexed(words, &gone[..end], removed, info, rows, start);
+        let mut index = [0u32; 18432];
+        hash_index::build(gone, removed, &mut index);
+        keep_all(words, gone, &index, removed, info, rows, part)
+    } else {
+        keep_all(words, gone, &[], removed, info, rows, part)
     }
-    let none = [0u32; 0];
-    keep_all(words, &gone[..end], &none, removed, info, rows, start)
 }

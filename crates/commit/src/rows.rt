@@ -5,43 +5,33 @@ ghost use Rattle.commit.specs.Rows.{Sound, Stand, new_info, appended, put_row, a
 ghost use Rattle.commit.specs.Indexed.{index_for, IndexedRows};
 
 use crate::merge;
-use tables::{Found, TableInfo};
+use tables::TableInfo;
 
-// How many rows a table has, how many words are used up to their end, and the word at which they begin; or a row had no room. `from` is a u32 so that three bytes of padding follow `over`: seven are copied in two halves that overlap, and each copy would wait for the one before it.
+// How many rows a table has, how many words are used up to their end, and the word at which they begin; or a row had no room.
 #[derive(Clone, Copy)]
 pub struct Part {
     pub count: usize,
     pub used: usize,
-    pub from: u32,
+    pub from: usize,
     pub over: bool,
 }
 
 // One row more, past the used words. Where a row has no room, neither it nor any after it is added.
-pub fn append(rows: &mut [u32], part: Part, row: &[u32]) -> Part
-    requires { (part.used ≤ length rows.old) × (part.count ≤ length rows.old) }
-    ensures { as_rows rows.new result ≡ appended row.now (as_rows rows.old part) }
+#[tactic(auto, unfolding(crate::specs::Rows::appended))]
+pub fn append(rows: &mut [u32], part: &mut Part, row: &[u32])
+    requires { (part.old.used ≤ length rows.old) × (part.old.count ≤ length rows.old) }
+    ensures { as_rows rows.new part.new ≡ appended row.now (as_rows rows.old part.old) }
 {
-    let from = part.from;
-    let count = part.count;
-    let used = part.used;
     if part.over {
-        return part;
+        return;
     }
-    if rows.len() < used + row.len() {
-        return Part {
-            count,
-            used,
-            from,
-            over: true,
-        };
+    if rows.len() < part.used + row.len() {
+        part.over = true;
+        return;
     }
-    words::copy(row, rows, used);
-    Part {
-        count: count + 1,
-        used: used + row.len(),
-        from,
-        over: false,
-    }
+    words::copy(row, rows, part.used);
+    part.count += 1;
+    part.used += row.len();
 }
 
 // The table as it stands among the rows.
@@ -49,16 +39,14 @@ pub fn table_of(info: TableInfo, part: Part) -> TableInfo
     ensures { result ≡ new_info info part }
 {
     TableInfo {
-        keys: info.keys,
-        width: info.width,
-        merge: info.merge,
         rows: part.count,
-        at: words::size(part.from),
+        at: part.from,
+        ..info
     }
 }
 
 // The row with the key, by the index of the rows; an empty index is none, and all rows are looked at.
-fn find(rows: &[u32], index: &[u32], part: Part, info: TableInfo, key: &[u32; 16]) -> Found
+fn find(rows: &[u32], index: &[u32], part: Part, info: TableInfo, key: &[u32; 16]) -> Option<usize>
     requires { Sound info × Stand info.width (as_rows rows.now part) × IndexedRows info (as_rows rows.now part) index.now }
     ensures { result ≡ found_row rows.now (new_info info part) key.now }
 {
@@ -66,43 +54,31 @@ fn find(rows: &[u32], index: &[u32], part: Part, info: TableInfo, key: &[u32; 16
 }
 
 // A row appended, and noted in the index if there is one.
-fn append_noted(
-    rows: &mut [u32],
-    index: &mut [u32],
-    part: Part,
-    info: TableInfo,
-    row: &[u32],
-) -> Part
-    requires { Sound info × Stand info.width (as_rows rows.old part) × IndexedRows info (as_rows rows.old part) index.old
-        × (length row.now ≡ info.width) }
-    ensures rows { as_rows rows.new result ≡ appended row.now (as_rows rows.old part) }
-    ensures index { index.new ≡ index_for info (as_rows rows.new result) (length index.old) }
+fn append_noted(rows: &mut [u32], index: &mut [u32], part: &mut Part, info: TableInfo, row: &[u32])
+    requires { Sound info × Stand info.width (as_rows rows.old part.old)
+        × IndexedRows info (as_rows rows.old part.old) index.old × (length row.now ≡ info.width) }
+    ensures rows { as_rows rows.new part.new ≡ appended row.now (as_rows rows.old part.old) }
+    ensures index { index.new ≡ index_for info (as_rows rows.new part.new) (length index.old) }
 {
-    let longer = append(rows, part, row);
-    if index.len() == 0 {
-        return longer;
+    let count = part.count;
+    append(rows, part, row);
+    if index.is_empty() || part.count == count {
+        return;
     }
-    if longer.count == part.count {
-        return longer;
-    }
-    hash_index::add(index, part.count, hash_index::home(row, 0, info.keys));
-    longer
+    hash_index::add(index, count, hash_index::home(row, 0, info.keys));
 }
 
 // A row of the log. Its values are merged into the row that has its key; else it is appended.
-pub fn put(rows: &mut [u32], index: &mut [u32], part: Part, info: TableInfo, row: &[u32]) -> Part
-    requires { Sound info × Stand info.width (as_rows rows.old part) × IndexedRows info (as_rows rows.old part) index.old
-        × (length row.now ≡ info.width) }
-    ensures rows { as_rows rows.new result ≡ put_row info row.now (as_rows rows.old part) }
-    ensures index { index.new ≡ index_for info (as_rows rows.new result) (length index.old) }
+pub fn put(rows: &mut [u32], index: &mut [u32], part: &mut Part, info: TableInfo, row: &[u32])
+    requires { Sound info × Stand info.width (as_rows rows.old part.old)
+        × IndexedRows info (as_rows rows.old part.old) index.old × (length row.now ≡ info.width) }
+    ensures rows { as_rows rows.new part.new ≡ put_row info row.now (as_rows rows.old part.old) }
+    ensures index { index.new ≡ index_for info (as_rows rows.new part.new) (length index.old) }
 {
     let k = info.keys;
     let key = tables::key_of(row, k);
-    match find(rows, index, part, info, &key) {
-        Found::At(p) => {
-            merge::merge_words(rows, p + k, &row[k..], info.merge);
-            part
-        }
-        Found::Nothing => append_noted(rows, index, part, info, row),
+    match find(rows, index, *part, info, &key) {
+        Some(p) => merge::merge_words(rows, p + k, &row[k..], info.merge),
+        None => append_noted(rows, index, part, info, row),
     }
 }

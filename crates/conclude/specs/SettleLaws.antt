@@ -1,5 +1,5 @@
 -- The commit and the answer in the code, by what each of them left.
-use Rattle.std.specs.Prelude.{ℕ, ◌≤◌, ◌≡◌, Bool, true, false, cond, List, length, take}
+use Rattle.std.specs.Prelude.{ℕ, ◌≤◌, ◌≡◌, Bool, true, false, cond, List, length, take, Option, Result, Err}
 use Rattle.std.proofs.Common.{sym, ◌∙◌, subst, arith, length-take, ltb-false}
 use Rattle.std.proofs.Math.Path.{ap}
 use Rattle.model.specs.Book.Contents.{table_count}
@@ -7,14 +7,13 @@ use Rattle.model.specs.Answer.{row_words}
 use Rattle.model.specs.Laws.Book.{Readable}
 use Rattle.commit.specs.Commit.{Left, committed_rows}
 use Rattle.execution.specs.declared.Stop.{Stop}
-use Rattle.answer.specs.declared.Assembled.{Assembled}
+use Rattle.refusal.specs.declared.Refusal.{Refusal}
+use Rattle.refusal.specs.declared.Refusal.TheVariants.{RowsFull}
 use Rattle.answer.specs.Layout.{Results, left_by, assembled, assembled_length, Enough}
 use Rattle.run.specs.declared.Progress.{Progress}
 use Rattle.run.specs.Progress.{Ran}
 use Rattle.simulation.specs.Ends as ends
-use Rattle.conclude.specs.declared.Outcome.{Outcome}
-use Rattle.conclude.specs.declared.Outcome.TheVariants.{Refused}
-use Rattle.conclude.specs.End.{Settles, by_length, committed_to, settled, by_stop, concluded}
+use Rattle.conclude.specs.End.{Settles, committed_to, settled, by_stop, concluded}
 
 module _ (w : List ℕ) (p : Progress) (log rows answer : List ℕ) (n : ℕ) (n_is : n ≡ table_count w) (c : Left) (e : c ≡ committed_rows w n (take p.state.used log) rows) where
   is_left : c ≡ committed_rows w (table_count w) (take p.state.used log) rows
@@ -28,19 +27,19 @@ module _ (w : List ℕ) (p : Progress) (log rows answer : List ℕ) (n : ℕ) (n
   R = left_by w c.words log p.lengths p.at answer c.result p.state
 
   -- a row had no room
-  pub settled_over : c.result.over ≡ true → record { outcome = Refused 15 0; rows = c.words; answer = answer } ≡ settled w p log rows answer
+  pub settled_over : c.result.over ≡ true → record { outcome = Err RowsFull; rows = c.words; answer = answer } ≡ settled w p log rows answer
   settled_over o = sym (over_as true o) ∙ committed_settled
     where
-      over_as : (b : Bool) → c.result.over ≡ b → committed_to w p log answer c ≡ cond b (record { outcome = Refused 15 0; rows = c.words; answer = answer }) (record { outcome = by_length (assembled_length R (length answer)); rows = c.words; answer = assembled R answer })
-      over_as b e = ap (λ (b : Bool). cond b (record { outcome = Refused 15 0; rows = c.words; answer = answer }) (record { outcome = by_length (assembled_length R (length answer)); rows = c.words; answer = assembled R answer })) e
+      over_as : (b : Bool) → c.result.over ≡ b → committed_to w p log answer c ≡ cond b (record { outcome = Err RowsFull; rows = c.words; answer = answer }) (record { outcome = assembled_length R (length answer); rows = c.words; answer = assembled R answer })
+      over_as b e = ap (λ (b : Bool). cond b (record { outcome = Err RowsFull; rows = c.words; answer = answer }) (record { outcome = assembled_length R (length answer); rows = c.words; answer = assembled R answer })) e
 
   -- all rows had room
   module _ (o : c.result.over ≡ false) where
-    pub settled_answer : (x : Assembled) (r : Outcome) (b : List ℕ) → x ≡ assembled_length R (length answer) → r ≡ by_length x → b ≡ assembled R answer → record { outcome = r; rows = c.words; answer = b } ≡ settled w p log rows answer
-    settled_answer x r b i j k =
-        ap (λ (r : Outcome). record { outcome = r; rows = c.words; answer = b }) (j ∙ ap by_length i)
-        ∙ ap (λ (b : List ℕ). record { outcome = by_length (assembled_length R (length answer)); rows = c.words; answer = b }) k
-        ∙ sym (ap (λ (b : Bool). cond b (record { outcome = Refused 15 0; rows = c.words; answer = answer }) (record { outcome = by_length (assembled_length R (length answer)); rows = c.words; answer = assembled R answer })) o)
+    pub settled_answer : (x : Result ℕ Refusal) (b : List ℕ) → x ≡ assembled_length R (length answer) → b ≡ assembled R answer → record { outcome = x; rows = c.words; answer = b } ≡ settled w p log rows answer
+    settled_answer x b i k =
+        ap (λ (r : Result ℕ Refusal). record { outcome = r; rows = c.words; answer = b }) i
+        ∙ ap (λ (b : List ℕ). record { outcome = assembled_length R (length answer); rows = c.words; answer = b }) k
+        ∙ sym (ap (λ (b : Bool). cond b (record { outcome = Err RowsFull; rows = c.words; answer = answer }) (record { outcome = assembled_length R (length answer); rows = c.words; answer = assembled R answer })) o)
         ∙ committed_settled
 
     pub enough_here : Readable w → length rows ≤ 16384 → length c.words ≡ length rows → Settles w p log answer → Enough R p.at answer
@@ -53,6 +52,6 @@ module _ (w : List ℕ) (p : Progress) (log rows answer : List ℕ) (n : ℕ) (n
 -- ## By why the run ended
 
 module _ (w : List ℕ) (p : Progress) (log rows answer : List ℕ) where
-  pub concluded_by : (o : Stop) → p.state.stop ≡ o → by_stop o w p log rows answer ≡ concluded w p log rows answer
+  pub concluded_by : (o : Option Stop) → p.state.stop ≡ o → by_stop o w p log rows answer ≡ concluded w p log rows answer
   unfolding concluded
-  concluded_by o e = ap (λ (o : Stop). by_stop o w p log rows answer) (sym e)
+  concluded_by o e = ap (λ (o : Option Stop). by_stop o w p log rows answer) (sym e)

@@ -4,28 +4,12 @@
 ghost use Rattle.std.specs.Prelude.{◌≡◌, ◌≤◌, length};
 ghost use Rattle.model.specs.Laws.Book.{Readable};
 ghost use Rattle.contents.specs.Contents.{ContentsOf};
-ghost use Rattle.conclude.specs.End.{Settles, RanOn, by_length, settled, concluded, as_settling};
+ghost use Rattle.conclude.specs.End.{Settles, RanOn, refused, settled, concluded, as_settling};
 
-use answer::Assembled;
 use contents::Contents;
 use execution::Stop;
+use refusal::Refusal;
 use run::Progress;
-
-// Accepted, with how many words the answer has; or refused by a number of document 01's table, with a place.
-#[derive(Clone, Copy)]
-pub enum Outcome {
-    Accepted(usize),
-    Refused(u32, usize),
-}
-
-fn by_length(a: Assembled) -> Outcome
-    ensures { result ≡ by_length a }
-{
-    match a {
-        Assembled::Words(n) => Outcome::Accepted(n),
-        Assembled::Over => Outcome::Refused(16, 0),
-    }
-}
 
 // The commit into `tables`, and the answer.
 fn settle(
@@ -35,7 +19,7 @@ fn settle(
     log: &[u32],
     tables: &mut [u32],
     answer: &mut [u32],
-) -> Outcome
+) -> Result<usize, Refusal>
     requires { Readable words.now × ContentsOf words.now contents × (length tables.old ≤ 16384)
         × Settles words.now p log.now answer.old }
     ensures { as_settling result tables.new answer.new
@@ -45,10 +29,20 @@ fn settle(
     let used = state.used;
     let done = commit::commit(words, contents.table_count(), &log[..used], tables);
     if done.over {
-        return Outcome::Refused(15, 0);
+        return Err(Refusal::RowsFull);
     }
     let lengths = p.lengths;
-    by_length(answer::assemble(words, tables, done, state, log, &lengths, p.at, answer))
+    answer::assemble(words, tables, done, state, log, &lengths, p.at, answer)
+}
+
+// The refusal of a run that stopped at a step.
+fn refused(why: Stop, step: usize) -> Refusal
+    ensures { result ≡ refused why step }
+{
+    match why {
+        Stop::Spent => Refusal::CounterSpent(step),
+        Stop::Full => Refusal::LogFull(step),
+    }
 }
 
 // What a run comes to, by why it ended.
@@ -59,7 +53,7 @@ pub fn conclude(
     log: &[u32],
     tables: &mut [u32],
     answer: &mut [u32],
-) -> Outcome
+) -> Result<usize, Refusal>
     requires { Readable words.now × ContentsOf words.now contents × (p.done ≤ 64)
         × (length tables.old ≤ 16384) × RanOn words.now p log.now answer.old }
     ensures { as_settling result tables.new answer.new
@@ -69,8 +63,7 @@ pub fn conclude(
     let stop = state.stop;
     let step = contents.first_step() + p.done;
     match stop {
-        Stop::Going => settle(words, contents, p, log, tables, answer),
-        Stop::Spent => Outcome::Refused(13, step),
-        Stop::Full => Outcome::Refused(12, step),
+        None => settle(words, contents, p, log, tables, answer),
+        Some(why) => Err(refused(why, step)),
     }
 }

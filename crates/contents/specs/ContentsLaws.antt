@@ -1,10 +1,9 @@
 -- What the code of the contents leans on: the four parts of an entry's test, and how many of each group were seen.
 use Prim.Native.Nat.{ℕ, zero, suc, ◌+◌, ◌*◌, ◌<◌, ◌≤◌}
-use Rattle.std.specs.Prelude.{◌≡◌, Bool, true, false, ◌&&◌, List, [], ◌∷◌, eqb, ltb, leb, length, get_or, set}
+use Rattle.std.specs.Prelude.{◌≡◌, Bool, true, false, ◌&&◌, List, [], ◌∷◌, eqb, ltb, leb, length, get_or, set, None, Some}
 use Rattle.std.proofs.Math.Path.{refl, ap}
 use Rattle.std.proofs.Common.{sym, ◌∙◌, subst, arith, add-one, get_or-set_same, get_or-set_other}
 use Rattle.std.proofs.Math.Bool.{not}
-use Rattle.std.proofs.Math.Option.{none, some}
 use borrow.Author.Tests.{lt-ltb, le-ltb, le-leb, lt-leb, eq-eqb, ne_eqb, eqb-true, eqb-false}
 use Rattle.model.specs.Laws.Lists.{none_least, some_least}
 use Rattle.model.specs.Book.Contents.{group, most, count, group_of, first_of, members, begins, last_group, entry_fits, count_fits, contents_refusal, first_rule, first_step}
@@ -101,19 +100,19 @@ module _ (w : List ℕ) where
   unfolding count_fits
   count_past a b c = rw (lt-ltb _ _ a, le-leb _ _ b, lt-leb _ _ c)
 
-  pub refuse_count : count_fits w ≡ false → some (record { number = 2; place = 0 }) ≡ contents_refusal w
+  pub refuse_count : count_fits w ≡ false → Some (record { number = 2; place = 0 }) ≡ contents_refusal w
   unfolding contents_refusal
   refuse_count e = rw e
 
-  pub refuse_entry : count_fits w ≡ true → (i : ℕ) → i < count w → ((j : ℕ) → j < i → entry_fits w j ≡ true) → entry_fits w i ≡ false → some (record { number = 2; place = i }) ≡ contents_refusal w
+  pub refuse_entry : count_fits w ≡ true → (i : ℕ) → i < count w → ((j : ℕ) → j < i → entry_fits w j ≡ true) → entry_fits w i ≡ false → Some (record { number = 2; place = i }) ≡ contents_refusal w
   unfolding contents_refusal
   refuse_entry c i l before here = rw (c, some_least (λ i. not (entry_fits w i)) (count w) i (record { below = l; here = rw here; before = λ j h. rw (before j h) }))
 
-  pub refuse_end : count_fits w ≡ true → ((j : ℕ) → j < count w → entry_fits w j ≡ true) → (begins w (count w) ≡ length w → ⊥) → some (record { number = 2; place = 0 }) ≡ contents_refusal w
+  pub refuse_end : count_fits w ≡ true → ((j : ℕ) → j < count w → entry_fits w j ≡ true) → (begins w (count w) ≡ length w → ⊥) → Some (record { number = 2; place = 0 }) ≡ contents_refusal w
   unfolding contents_refusal
   refuse_end c all e = rw (c, none_least (λ i. not (entry_fits w i)) (count w) (λ j h. rw (all j h)), ne_eqb _ _ e)
 
-  pub pass : count_fits w ≡ true → ((j : ℕ) → j < count w → entry_fits w j ≡ true) → begins w (count w) ≡ length w → none ≡ contents_refusal w
+  pub pass : count_fits w ≡ true → ((j : ℕ) → j < count w → entry_fits w j ≡ true) → begins w (count w) ≡ length w → None ≡ contents_refusal w
   unfolding contents_refusal
   pass c all e = rw (c, none_least (λ i. not (entry_fits w i)) (count w) (λ j h. rw (all j h)), eq-eqb _ _ e)
 

@@ -3,16 +3,10 @@
 
 ghost use Rattle.std.specs.Prelude.{◌≡◌, ◌&&◌, ◌+◌, ◌*◌, ◌≤◌, ◌<◌, eqb, ltb, leb, length};
 ghost use Rattle.model.specs.Book.Contents as contents;
-ghost use Rattle.contents.specs.Contents.{refusal_of, ContentsOf};
+ghost use Rattle.contents.specs.Contents.{ContentsOf};
+ghost use Rattle.refusal.specs.Refusal.{refusal_of};
 
-// What refusal 2 comes to: the contents pass, or the count, an entry or the book's end is at fault.
-#[derive(Clone, Copy)]
-pub enum Checked {
-    Pass,
-    Count,
-    Entry(usize),
-    End,
-}
+use refusal::Refusal;
 
 // How many of each a book has. Their entries stand in this order.
 #[derive(Clone, Copy)]
@@ -52,14 +46,14 @@ impl Contents {
     pub fn first_rule(self) -> usize
         ensures { result ≡ self.tables + self.counters }
     {
-        words::size(self.tables) + words::size(self.counters)
+        self.table_count() + self.counter_count()
     }
 
     // The steps' first entry.
     pub fn first_step(self) -> usize
         ensures { result ≡ self.tables + self.counters + self.rules }
     {
-        words::size(self.tables) + words::size(self.counters) + words::size(self.rules)
+        self.first_rule() + self.rule_count()
     }
 }
 
@@ -94,16 +88,7 @@ fn most(g: u32) -> u32
 fn fits(last: u32, g: u32, seen: u32, first: usize, end: usize) -> bool
     ensures { result ≡ (leb last g && ltb 0 g && leb seen (contents.most g) && eqb first end) }
 {
-    if g < last {
-        return false;
-    }
-    if g == 0 {
-        return false;
-    }
-    if most(g) < seen {
-        return false;
-    }
-    first == end
+    last <= g && 0 < g && seen <= most(g) && first == end
 }
 
 // The kind of entry i.
@@ -119,8 +104,7 @@ pub fn first_of(words: &[u32], i: usize) -> usize
     requires { i < 65536 }
     ensures { (result ≡ contents.first_of words.now i) × (result < 4294967296) }
 {
-    let first = words::word(words, 2 + 3 * i);
-    words::size(first)
+    words::size_at(words, 2 + 3 * i)
 }
 
 // The word past body i.
@@ -128,24 +112,20 @@ pub fn end_of(words: &[u32], i: usize) -> usize
     requires { i < 65536 }
     ensures { (result ≡ contents.end_of words.now i) × (result < 8589934592) }
 {
-    let first = first_of(words, i);
-    let length = words::word(words, 3 + 3 * i);
-    first + words::size(length)
+    first_of(words, i) + words::size_at(words, 3 + 3 * i)
 }
 
 // How many of the first n entries are of group g.
+#[tactic(auto, using(model::specs::Laws::Contents::members_le), unfolding(model::specs::Book::Contents::members))]
 fn members(words: &[u32], n: usize, g: u32) -> u32
     requires { n ≤ 128 }
     ensures { result ≡ contents.members words.now g n }
 {
-    let mut c: u32 = 0;
-    let mut i = 0;
-    while i < n {
-        let k = group(kind_of(words, i));
-        if k == g {
+    let mut c = 0;
+    for i in 0..n {
+        if group(kind_of(words, i)) == g {
             c += 1;
         }
-        i += 1;
     }
     c
 }
@@ -155,54 +135,41 @@ pub fn of(words: &[u32]) -> Contents
     requires { contents.count words.now ≤ 128 }
     ensures { ContentsOf words.now result }
 {
-    let n = words::size(words::word(words, 0));
-    let tables = members(words, n, 1);
-    let counters = members(words, n, 2);
-    let rules = members(words, n, 3);
-    let steps = members(words, n, 4);
+    let n = words::size_at(words, 0);
     Contents {
-        tables,
-        counters,
-        rules,
-        steps,
+        tables: members(words, n, 1),
+        counters: members(words, n, 2),
+        rules: members(words, n, 3),
+        steps: members(words, n, 4),
     }
 }
 
 // Refusal 2.
-pub fn check(words: &[u32]) -> Checked
+#[tactic(auto, unfolding(model::specs::Book::Contents::members, model::specs::Book::Contents::count_fits, model::specs::Book::Contents::contents_refusal))]
+pub fn check(words: &[u32]) -> Result<(), Refusal>
     requires { (0 < length words.now) × (length words.now ≤ 16384) }
     ensures { refusal_of result ≡ contents.contents_refusal words.now }
 {
     let n = words::size(words[0]);
-    if n == 0 {
-        return Checked::Count;
+    if n == 0 || 128 < n || words.len() < 1 + 3 * n {
+        return Err(Refusal::Contents(0));
     }
-    if 128 < n {
-        return Checked::Count;
-    }
-    if words.len() < 1 + 3 * n {
-        return Checked::Count;
-    }
-    let mut counts = [0u32; 5];
-    let mut last: u32 = 1;
+    let mut counts = [0; 5];
+    let mut last = 1;
     let mut end = 1 + 3 * n;
-    let mut i = 0;
-    while i < n {
+    for i in 0..n {
         let g = group(kind_of(words, i));
-        let first = first_of(words, i);
         let k = words::size(g);
-        let seen = counts[k] + 1;
-        if !fits(last, g, seen, first, end) {
-            return Checked::Entry(i);
+        counts[k] += 1;
+        if !fits(last, g, counts[k], first_of(words, i), end) {
+            return Err(Refusal::Contents(i));
         }
-        counts[k] = seen;
         last = g;
         end = end_of(words, i);
-        i += 1;
     }
     if end == words.len() {
-        Checked::Pass
+        Ok(())
     } else {
-        Checked::End
+        Err(Refusal::Contents(0))
     }
 }

@@ -16,34 +16,23 @@ pub struct Taken {
     pub next: usize,
 }
 
-fn new<'a>(words: &'a [u32], at: usize) -> Reader<'a>
-    ensures { (result.words ≡ words.entry) × (result.at ≡ at) }
-{
-    Reader { words, at }
-}
+impl<'a> Reader<'a> {
+    // The word that it stands at, or 0 past the end.
+    fn word(self) -> u32
+        ensures { result ≡ get_or self.entry.words.now self.entry.at 0 }
+    {
+        words::word(self.words, self.at)
+    }
 
-// Where it stands.
-fn at<'a>(r: Reader<'a>) -> usize
-    ensures { result ≡ r.entry.at }
-{
-    r.at
-}
-
-// The word that it stands at, or 0 past the end.
-fn word<'a>(r: Reader<'a>) -> u32
-    ensures { result ≡ get_or r.entry.words.now r.entry.at 0 }
-{
-    words::word(r.words, r.at)
-}
-
-// One word on.
-fn past<'a>(r: Reader<'a>) -> Reader<'a>
-    requires { r.at + 1 < 2 ^ 64 }
-    ensures { (result.words ≡ r.entry.words) × (result.at ≡ r.entry.at + 1) }
-{
-    Reader {
-        words: r.words,
-        at: r.at + 1,
+    // One word on.
+    fn past(self) -> Self
+        requires { self.at + 1 < 2 ^ 64 }
+        ensures { (result.words ≡ self.entry.words) × (result.at ≡ self.entry.at + 1) }
+    {
+        Reader {
+            at: self.at + 1,
+            ..self
+        }
     }
 }
 
@@ -52,8 +41,9 @@ pub fn take(words: &[u32], p: usize) -> Taken
     requires { p + 1 < 2 ^ 64 }
     ensures { (result.word ≡ get_or words.now p 0) × (result.next ≡ p + 1) }
 {
-    let r = new(words, p);
-    let x = word(r);
-    let next = at(past(r));
-    Taken { word: x, next }
+    let reader = Reader { words, at: p };
+    Taken {
+        word: reader.word(),
+        next: reader.past().at,
+    }
 }

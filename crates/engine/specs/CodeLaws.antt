@@ -1,22 +1,17 @@
 -- From one call's contract to the next, in the functions of the engine.
-use Rattle.std.specs.Prelude.{ℕ, ◌<◌, ◌≤◌, ◌≡◌, refl, true, ◌&&◌, List, eqb, leb, length, get_or, replicate}
-use Rattle.std.proofs.Common.{sym, ap, ◌∙◌, subst, arith, eq-eqb, le-leb, eqb-true, leb-true}
-use Rattle.std.proofs.Math.Option.{none}
+use Rattle.std.specs.Prelude.{ℕ, ◌<◌, ◌≤◌, ◌≡◌, refl, true, ◌&&◌, List, eqb, leb, length, get_or, replicate, None, Result, Ok, Err}
 use Rattle.std.proofs.lemmas.List.{length-replicate}
+use Rattle.std.proofs.Common.{sym, ap, ◌∙◌, subst, arith, eq-eqb, le-leb, eqb-true, leb-true}
 use Rattle.model.specs.Book.Contents.{step_count}
 use Rattle.model.specs.Laws.Logic.{and_split}
 use Rattle.model.specs.Book.Words.{Byte, bytes_refusal, words_of}
 use Rattle.model.specs.Outcome.{Lent, words_refusal, book_refusal, Permitted}
-use Rattle.rules.specs.declared.Verdict.{Verdict}
-use Rattle.rules.specs.declared.Verdict.TheVariants.{Pass}
-use Rattle.rules.specs.declared.Verdict.TheVariants as verdict
-use Rattle.rules.specs.Rules.{verdict_of}
+use Rattle.refusal.specs.declared.Refusal.{Refusal}
+use Rattle.refusal.specs.Refusal.{refusal_of}
 use Rattle.admit.specs.BookLaws.{book_on}
 use Rattle.run.specs.declared.Progress.{Progress}
 use Rattle.run.specs.Progress.{Ran, ran_steps}
 use Rattle.simulation.specs.Ends.{start_progress}
-use Rattle.conclude.specs.declared.Outcome.{Outcome}
-use Rattle.conclude.specs.declared.Outcome.TheVariants.{Refused}
 use Rattle.engine.specs.Engine.{lent_of, lengths_fit, Runnable, Decided, outcome_of, AnswerLeft, kept_answer}
 use Rattle.conclude.specs.End.{Concludes, RanOn, Settling, concluded}
 use Rattle.engine.specs.EngineLaws.{all_read, runnable, ran_on, run_concludes, decided_book, decided_run, permitted, answer_left}
@@ -51,19 +46,19 @@ lent_same b i l t a b' i' l' t' a' p q r s u = rw (p, q, r, s, u)
 
 -- ## The book's words
 
-module _ (book front : List ℕ) (is : front ≡ words_of book) (passed : bytes_refusal book ≡ none) (v : Verdict) (told : verdict_of v ≡ words_refusal front) where
-  book_told : book_refusal book ≡ verdict_of v
+module _ (book front : List ℕ) (is : front ≡ words_of book) (passed : bytes_refusal book ≡ None) {A : Type 0} (v : Result A Refusal) (told : refusal_of v ≡ words_refusal front) where
+  book_told : book_refusal book ≡ refusal_of v
   book_told = book_on book passed ∙ ap words_refusal (sym is) ∙ sym told
 
-  pub front_runnable : ((i : ℕ) → get_or book i 0 < 256) → v ≡ Pass → Runnable front
-  front_runnable bytes e = subst Runnable (sym is) (runnable book (all_read Byte book bytes) passed (sym (book_on book passed) ∙ book_told ∙ ap verdict_of e))
+  pub front_runnable : ((i : ℕ) → get_or book i 0 < 256) → (a : A) → v ≡ Ok a → Runnable front
+  front_runnable bytes a e = subst Runnable (sym is) (runnable book (all_read Byte book bytes) passed (sym (book_on book passed) ∙ book_told ∙ ap refusal_of e))
 
   module _ (l : Lent) (ws : List ℕ) (fit : lengths_fit l.bindings l.index l.log l.tables ≡ true) where
-    pub front_decided : v ≡ Pass → (r : Outcome) → Concludes front l r ws → Decided l book r ws
-    front_decided e r c = decided_run l book ws fit (book_told ∙ ap verdict_of e) r (subst (λ (w : List ℕ). Concludes w l r ws) is c)
+    pub front_decided : (a : A) → v ≡ Ok a → (r : Result ℕ Refusal) → Concludes front l r ws → Decided l book r ws
+    front_decided a e r c = decided_run l book ws fit (book_told ∙ ap refusal_of e) r (subst (λ (w : List ℕ). Concludes w l r ws) is c)
 
-    pub front_refused : (n p : ℕ) → v ≡ verdict.Refused n p → Decided l book (Refused n p) ws
-    front_refused n p e = decided_book l book ws fit n p (book_told ∙ ap verdict_of e)
+    pub front_refused : (r : Refusal) → v ≡ Err r → Decided l book (Err r) ws
+    front_refused r e = decided_book l book ws fit r (book_told ∙ ap refusal_of e)
 
 -- ## The run
 
@@ -89,7 +84,7 @@ module _ (w : List ℕ) (h : Runnable w) (bindings index log answer : List ℕ) 
 -- ## What is left
 
 -- what was decided of words as long as those lent, and the answer that is kept
-module _ (l lent : Lent) (book ws : List ℕ) (r : Outcome) (same : l ≡ lent) (d : Decided l book r ws) (left : List ℕ) (kept : left ≡ kept_answer r ws) where
+module _ (l lent : Lent) (book ws : List ℕ) (r : Result ℕ Refusal) (same : l ≡ lent) (d : Decided l book r ws) (left : List ℕ) (kept : left ≡ kept_answer r ws) where
   pub left_permitted : Permitted lent book (outcome_of r left)
   left_permitted = subst (λ (x : List ℕ). Permitted lent book (outcome_of r x)) (sym kept) (permitted lent book ws r (subst (λ (l : Lent). Decided l book r ws) same d))
 

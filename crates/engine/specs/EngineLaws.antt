@@ -1,8 +1,7 @@
 -- From the parts to the whole: what is decided is what document 01 permits.
-use Rattle.std.specs.Prelude.{ℕ, suc, ◌-◌, ◌^◌, ◌<◌, ◌≤◌, ◌≡◌, refl, true, false, List, [], ◌∷◌, length, get_or, take, drop, replicate}
+use Rattle.std.specs.Prelude.{ℕ, suc, ◌-◌, ◌^◌, ◌<◌, ◌≤◌, ◌≡◌, refl, true, false, List, [], ◌∷◌, length, get_or, take, drop, replicate, None, Some, Result, Ok, Err}
 use Rattle.std.proofs.Common.{sym, ◌∙◌, subst, arith, drop_at}
 use Rattle.std.proofs.Math.Path.{ap}
-use Rattle.std.proofs.Math.Option.{none, some}
 use Rattle.std.proofs.Math.Seq.{take_at}
 use Rattle.model.specs.Basics.{All}
 use Rattle.model.specs.Book.Syntax.{Table}
@@ -22,8 +21,9 @@ use Rattle.simulation.specs.Represents.{machine, bool_clash}
 use Rattle.simulation.specs.Runs.{RunIs, Runs, sticking, stopped, going_on}
 use Rattle.simulation.proofs.Runs.{run_follows}
 use Rattle.simulation.specs.Ends.{start_progress, starts, never_stuck}
-use Rattle.conclude.specs.declared.Outcome.{Outcome}
-use Rattle.conclude.specs.declared.Outcome.TheVariants.{Accepted, Refused}
+use Rattle.refusal.specs.declared.Refusal.{Refusal}
+use Rattle.refusal.specs.declared.Refusal.TheVariants.{Lengths}
+use Rattle.refusal.specs.Refusal.{told}
 use Rattle.engine.specs.Engine.{lengths_fit, outcome_of, AnswerLeft, kept_answer, Runnable, Decided}
 use Rattle.conclude.specs.End.{Concludes, Settles, RanOn, Settling, concluded}
 use Rattle.conclude.specs.EndLaws.{ran_is, concludes}
@@ -35,9 +35,9 @@ pub all_read : (P : ℕ → Type 0) (l : List ℕ) → ((i : ℕ) → P (get_or 
 all_read P [] h = tt
 all_read P (x ∷ l) h = (h 0, all_read P l (λ i. h (suc i)))
 
-pub runnable : (book : List ℕ) → All Byte book → bytes_refusal book ≡ none → words_refusal (words_of book) ≡ none → Runnable (words_of book)
+pub runnable : (book : List ℕ) → All Byte book → bytes_refusal book ≡ None → words_refusal (words_of book) ≡ None → Runnable (words_of book)
 runnable book bytes first rest =
-    let unrefused : book_refusal book ≡ none = book_on book first ∙ rest in
+    let unrefused : book_refusal book ≡ None = book_on book first ∙ rest in
     record {
       readable = record { one = words_some book first; most = words_most book first; contents = no_contents book bytes unrefused; bodies = no_bodies book bytes unrefused };
       no_steps = no_steps book bytes unrefused;
@@ -83,22 +83,22 @@ module _ (w : List ℕ) (h : Runnable w) (L A : ℕ) (short : L ≤ 16384) (m : 
 -- ## The order of refusals
 
 module _ (l : Lent) (book : List ℕ) (ws : List ℕ) where
-  pub decided_14 : lengths_fit l.bindings l.index l.log l.tables ≡ false → Decided l book (Refused 14 0) ws
+  pub decided_14 : lengths_fit l.bindings l.index l.log l.tables ≡ false → Decided l book (Err Lengths) ws
   unfolding refusal
   decided_14 e = rw e
 
   module _ (fit : lengths_fit l.bindings l.index l.log l.tables ≡ true) where
-    pub decided_book : (n p : ℕ) → book_refusal book ≡ some (record { number = n; place = p }) → Decided l book (Refused n p) ws
+    pub decided_book : (r : Refusal) → book_refusal book ≡ Some (told r) → Decided l book (Err r) ws
     unfolding refusal
-    decided_book n p e = rw (fit, e)
+    decided_book r e = rw (fit, e)
 
-    no_book : book_refusal book ≡ none → refusal l book ≡ end_refusal l (first_step (words_of book)) (committed l book) (left l book)
+    no_book : book_refusal book ≡ None → refusal l book ≡ end_refusal l (first_step (words_of book)) (committed l book) (left l book)
     unfolding refusal
     no_book e = rw (fit, e)
 
-    pub decided_run : book_refusal book ≡ none → (r : Outcome) → Concludes (words_of book) l r ws → Decided l book r ws
-    decided_run e (Accepted n) c = (no_book e ∙ c.0, c.1, c.2, c.3)
-    decided_run e (Refused n p) c = no_book e ∙ c
+    pub decided_run : book_refusal book ≡ None → (r : Result ℕ Refusal) → Concludes (words_of book) l r ws → Decided l book r ws
+    decided_run e (Ok n) c = (no_book e ∙ c.0, c.1, c.2, c.3)
+    decided_run e (Err r) c = no_book e ∙ c
 
 -- ## What may be returned
 
@@ -107,11 +107,11 @@ arranged_same [] = tt
 arranged_same (t ∷ ts) = (refl, refl, refl, same, arranged_same ts)
 
 module _ (l : Lent) (book ws : List ℕ) where
-  pub permitted : (r : Outcome) → Decided l book r ws → Permitted l book (outcome_of r (kept_answer r ws))
+  pub permitted : (r : Result ℕ Refusal) → Decided l book r ws → Permitted l book (outcome_of r (kept_answer r ws))
   unfolding outcome
-  permitted (Accepted n) d = (committed l book, arranged_same (committed l book), ap (take n) d.3 ∙ take_at (model.answer (committed l book) (left l book)) (replicate (l.answer - n) 0) n (sym d.1), rw d.0)
-  permitted (Refused n p) d = rw d
+  permitted (Ok n) d = (committed l book, arranged_same (committed l book), ap (take n) d.3 ∙ take_at (model.answer (committed l book) (left l book)) (replicate (l.answer - n) 0) n (sym d.1), rw d.0)
+  permitted (Err r) d = rw d
 
-  pub answer_left : (r : Outcome) → length ws ≡ l.answer → Decided l book r ws → AnswerLeft r l.answer (kept_answer r ws)
-  answer_left (Accepted n) size d = (d.2, size, ap (drop n) d.3 ∙ drop_at (model.answer (committed l book) (left l book)) (replicate (l.answer - n) 0) n (sym d.1))
-  answer_left (Refused n p) size d = ap (λ (k : ℕ). replicate k 0) size
+  pub answer_left : (r : Result ℕ Refusal) → length ws ≡ l.answer → Decided l book r ws → AnswerLeft r l.answer (kept_answer r ws)
+  answer_left (Ok n) size d = (d.2, size, ap (drop n) d.3 ∙ drop_at (model.answer (committed l book) (left l book)) (replicate (l.answer - n) 0) n (sym d.1))
+  answer_left (Err r) size d = ap (λ (k : ℕ). replicate k 0) size

@@ -1,7 +1,6 @@
 -- Where a book is accepted, each record of its log belongs to a table of the book and has as many words as its kind asks for.
-use Rattle.std.specs.Prelude.{ℕ, ◌+◌, ◌≡◌, ◌≢◌, false, List, []}
+use Rattle.std.specs.Prelude.{ℕ, ◌+◌, ◌≡◌, ◌≢◌, false, List, [], None, Option, Some}
 use Rattle.std.proofs.Common.{sym, ap, ◌∙◌, subst}
-use Rattle.std.proofs.Math.Option.{none}
 use Rattle.std.proofs.Math.ListN.{length}
 use Rattle.model.specs.Basics.{All}
 use Rattle.model.specs.Book.Syntax.{Table}
@@ -12,7 +11,7 @@ use Rattle.model.specs.Outcome.{Lent, lent_refusal, words_refusal, book_refusal,
 use Rattle.model.specs.Laws.Logic.{none_some, seq_none, unless_none}
 use Rattle.record_log.specs.RecordLaws.{Sized}
 use Rattle.execution.specs.declared.Stop.{Stop}
-use Rattle.execution.specs.declared.Stop.TheVariants.{Going, Spent, Full}
+use Rattle.execution.specs.declared.Stop.TheVariants.{Spent, Full}
 use Rattle.execution.specs.Execution.{goes_on}
 use Rattle.run.specs.Progress.{Ran}
 use Rattle.simulation.specs.Represents.{status_of, bool_clash}
@@ -22,13 +21,13 @@ use Rattle.conclude.specs.EndLaws.{ran_is}
 use Rattle.engine.specs.EngineLaws.{runnable, followed}
 use Rattle.engine.specs.CodeLaws.{true_fit}
 
-module _ (l : Lent) (p : ℕ) (ts : List Table) (s : State) (unrefused : end_refusal l p ts s ≡ none) where
+module _ (l : Lent) (p : ℕ) (ts : List Table) (s : State) (unrefused : end_refusal l p ts s ≡ None) where
   -- a run that stopped draws 12 or 13
-  not_stopped : (o : Stop) → goes_on o ≡ false → s.status ≡ status_of o → ⊥
+  not_stopped : (o : Option Stop) → goes_on o ≡ false → s.status ≡ status_of o → ⊥
   unfolding end_refusal
-  not_stopped Going e q = bool_clash e
-  not_stopped Spent e q = none_some {a = record { number = 13; place = p + length s.answers }} (sym unrefused ∙ rw q)
-  not_stopped Full e q = none_some {a = record { number = 12; place = p + length s.answers }} (sym unrefused ∙ rw q)
+  not_stopped None e q = bool_clash e
+  not_stopped (Some Spent) e q = none_some {a = record { number = 13; place = p + length s.answers }} (sym unrefused ∙ rw q)
+  not_stopped (Some Full) e q = none_some {a = record { number = 12; place = p + length s.answers }} (sym unrefused ∙ rw q)
 
   run_sized : (w : List ℕ) (L k : ℕ) (a : Ran) → s.status ≢ stuck → Runs w L k s a → All (Sized w) s.log
   run_sized w L k a n (sticking e) = absurd (n e)
@@ -39,18 +38,18 @@ of_same : {w : List ℕ} {L k : ℕ} {s t : State} {a : Ran} → s ≡ t → Run
 of_same {w} {L} {k} {s} {t} {a} e r = subst (λ (s : State). Runs w L k s a) (sym e) r
 
 -- none of refusals 14, 1 to 11, and 12 to 16
-unrefused_parts : (l : Lent) (book : List ℕ) → refusal l book ≡ none → (lent_refusal l ≡ none) × (book_refusal book ≡ none) × (end_refusal l (first_step (words_of book)) (committed l book) (left l book) ≡ none)
+unrefused_parts : (l : Lent) (book : List ℕ) → refusal l book ≡ None → (lent_refusal l ≡ None) × (book_refusal book ≡ None) × (end_refusal l (first_step (words_of book)) (committed l book) (left l book) ≡ None)
 unfolding refusal
 unrefused_parts l book e =
     let a = seq_none (lent_refusal l) _ _ e in
     let b = seq_none (book_refusal book) _ _ a.1 in
     (a.0, b.0, b.1)
 
-book_parts : (book : List ℕ) → book_refusal book ≡ none → (bytes_refusal book ≡ none) × (words_refusal (words_of book) ≡ none)
+book_parts : (book : List ℕ) → book_refusal book ≡ None → (bytes_refusal book ≡ None) × (words_refusal (words_of book) ≡ None)
 unfolding book_refusal
 book_parts book e = seq_none (bytes_refusal book) _ _ e
 
-pub log_sized : (l : Lent) (book : List ℕ) → All Byte book → refusal l book ≡ none → All (Sized (words_of book)) (left l book).log
+pub log_sized : (l : Lent) (book : List ℕ) → All Byte book → refusal l book ≡ None → All (Sized (words_of book)) (left l book).log
 log_sized l book bytes e =
     let w = words_of book in
     let parts = unrefused_parts l book e in

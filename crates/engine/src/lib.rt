@@ -1,8 +1,7 @@
 // The engine: a book of bytes is run to its end, or refused with a number and a place.
 #![tactic(auto)]
 
-ghost use Rattle.std.specs.Prelude.{◌≡◌, ◌≤◌, length, replicate};
-ghost use Rattle.std.proofs.Math.Option.{none};
+ghost use Rattle.std.specs.Prelude.{◌≡◌, ◌≤◌, length, replicate, None};
 ghost use Rattle.model.specs.Book.Words.{bytes_refusal, words_of};
 ghost use Rattle.model.specs.Book.Read as read;
 ghost use Rattle.model.specs.Outcome.{Permitted, words_refusal};
@@ -13,11 +12,10 @@ ghost use Rattle.simulation.specs.Ends.{start_progress};
 ghost use Rattle.conclude.specs.End.{Concludes};
 ghost use Rattle.engine.specs.Engine.{lent_of, lengths_fit, Runnable, Decided, outcome_of, AnswerLeft, kept_answer};
 
-use conclude::Outcome;
 use contents::Contents;
 use counter::Counters;
-use execution::{ExecutionState, Stop};
-use rules::Verdict;
+use execution::ExecutionState;
+use refusal::Refusal;
 use run::Progress;
 
 // The book's counters, 0 past the last.
@@ -28,10 +26,8 @@ fn counters_of(words: &[u32], contents: Contents) -> Counters
     let tables = contents.table_count();
     let n = contents.counter_count();
     let mut next = [0u32; 16];
-    let mut c = 0;
-    while c < n {
-        next[c] = words::word(words, contents::first_of(words, tables + c));
-        c += 1;
+    for (c, word) in next[..n].iter_mut().enumerate() {
+        *word = words::word(words, contents::first_of(words, tables + c));
     }
     Counters { next }
 }
@@ -46,7 +42,7 @@ fn start(words: &[u32], contents: Contents) -> Progress
         used: 0,
         counters,
         changed: false,
-        stop: Stop::Going,
+        stop: None,
     };
     Progress {
         state,
@@ -64,7 +60,7 @@ fn run_book(
     log: &mut [u32],
     tables: &mut [u32],
     answer: &mut [u32],
-) -> Outcome
+) -> Result<usize, Refusal>
     requires { Runnable words.now × (bindings.old ≡ replicate 8192 0) × (index.old ≡ replicate 8192 0)
         × (log.old ≡ replicate (length log.old) 0) × (length log.old ≤ 16384) × (length tables.old ≤ 16384)
         × (answer.old ≡ replicate (length answer.old) 0) }
@@ -85,31 +81,30 @@ fn run_book(
     conclude::conclude(words, contents, p, log, tables, answer)
 }
 
-// A book that refusal 1 passes, loaded into `words`: refusals 2 to 11, and then its run.
-fn decide_words(
+// A book that refusal 1 passes, loaded into an array of N words: refusals 2 to 11, and then its run.
+fn decide_words<const N: usize>(
     book: &[u8],
-    words: &mut [u32],
     bindings: &mut [u32],
     index: &mut [u32],
     log: &mut [u32],
     tables: &mut [u32],
     answer: &mut [u32],
-) -> Outcome
-    requires { (bytes_refusal book.now ≡ none) × (length (words_of book.now) ≤ length words.old)
+) -> Result<usize, Refusal>
+    requires { (bytes_refusal book.now ≡ None) × (length (words_of book.now) ≤ N)
         × (bindings.old ≡ replicate 8192 0) × (index.old ≡ replicate 8192 0) × (log.old ≡ replicate (length log.old) 0)
-        × (length log.old ≤ 16384) × (length tables.old ≤ 16384) × (answer.old ≡ replicate (length answer.old) 0) }
+        × (length log.old ≤ 16384) × (length tables.old ≤ 16384) × (answer.old ≡ replicate (length answer.old) 0)
+        × (N ≤ 16384) }
     ensures { Decided
         (lent_of bindings.old index.old log.old tables.old
         answer.old) book.now result answer.new }
 {
-    let n = admit::load_words(book, words);
-    match rules::first_refusal(&words[..n]) {
-        Verdict::Pass => run_book(&words[..n], bindings, index, log, tables, answer),
-        Verdict::Refused(number, place) => Outcome::Refused(number, place),
-    }
+    let mut words = [0u32; N];
+    let n = admit::load_words(book, &mut words);
+    rules::first_refusal(&words[..n])?;
+    run_book(&words[..n], bindings, index, log, tables, answer)
 }
 
-// The same, with an array of its own for the words: a small one for a small book, since clearing it takes less time.
+// The same, in a small array for a small book, since clearing it takes less time.
 fn decide_book(
     book: &[u8],
     bindings: &mut [u32],
@@ -117,8 +112,8 @@ fn decide_book(
     log: &mut [u32],
     tables: &mut [u32],
     answer: &mut [u32],
-) -> Outcome
-    requires { (bytes_refusal book.now ≡ none) × (bindings.old ≡ replicate 8192 0) × (index.old ≡ replicate 8192 0)
+) -> Result<usize, Refusal>
+    requires { (bytes_refusal book.now ≡ None) × (bindings.old ≡ replicate 8192 0) × (index.old ≡ replicate 8192 0)
         × (log.old ≡ replicate (length log.old) 0) × (length log.old ≤ 16384) × (length tables.old ≤ 16384)
         × (answer.old ≡ replicate (length answer.old) 0) }
     ensures { Decided
@@ -126,18 +121,16 @@ fn decide_book(
         answer.old) book.now result answer.new }
 {
     if book.len() <= 4096 {
-        let mut few = [0u32; 1024];
-        return decide_words(book, &mut few, bindings, index, log, tables, answer);
+        return decide_words::<1024>(book, bindings, index, log, tables, answer);
     }
-    let mut words = [0u32; 16384];
-    decide_words(book, &mut words, bindings, index, log, tables, answer)
+    decide_words::<16384>(book, bindings, index, log, tables, answer)
 }
 
 // Refusal 14: whether the lengths are right.
 fn lengths_fit(bindings: usize, index: usize, log: usize, tables: usize) -> bool
     ensures { result ≡ lengths_fit bindings index log tables }
 {
-    (bindings == 8192) & (index == 8192) & (log <= 16384) & (tables <= 16384)
+    bindings == 8192 && index == 8192 && log <= 16384 && tables <= 16384
 }
 
 // The outcome, with the answer in its words. The words lent are zero.
@@ -148,7 +141,7 @@ fn decide(
     log: &mut [u32],
     tables: &mut [u32],
     answer: &mut [u32],
-) -> Outcome
+) -> Result<usize, Refusal>
     requires { (bindings.old ≡ replicate (length bindings.old) 0) × (index.old ≡ replicate (length index.old) 0)
         × (log.old ≡ replicate (length log.old) 0) × (answer.old ≡ replicate (length answer.old) 0) }
     ensures { Decided
@@ -156,21 +149,18 @@ fn decide(
         answer.old) book.now result answer.new }
 {
     if !lengths_fit(bindings.len(), index.len(), log.len(), tables.len()) {
-        return Outcome::Refused(14, 0);
+        return Err(Refusal::Lengths);
     }
-    match admit::length_refusal(book) {
-        Verdict::Pass => decide_book(book, bindings, index, log, tables, answer),
-        Verdict::Refused(number, place) => Outcome::Refused(number, place),
-    }
+    admit::length_refusal(book)?;
+    decide_book(book, bindings, index, log, tables, answer)
 }
 
 // A refusal leaves the answer zero.
-fn keep_or_clear(outcome: Outcome, answer: &mut [u32])
+fn keep_or_clear(outcome: Result<usize, Refusal>, answer: &mut [u32])
     ensures { answer.new ≡ kept_answer outcome answer.old }
 {
-    match outcome {
-        Outcome::Accepted(_) => {}
-        Outcome::Refused(_, _) => words::clear(answer),
+    if outcome.is_err() {
+        words::clear(answer);
     }
 }
 
@@ -182,7 +172,7 @@ pub fn run(
     log: &mut [u32],
     tables: &mut [u32],
     answer: &mut [u32],
-) -> Outcome
+) -> Result<usize, Refusal>
     ensures outcome { Permitted
         (lent_of bindings.old index.old log.old tables.old
         answer.old) book.now (outcome_of result answer.new) }

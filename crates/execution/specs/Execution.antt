@@ -1,25 +1,23 @@
 -- What staging leaves of a run's state and its log.
-use Rattle.std.specs.Prelude.{ℕ, Bool, true, false, ◌&&◌, List, get_or}
+use Rattle.std.specs.Prelude.{ℕ, Bool, true, false, ◌&&◌, List, get_or, Option, Some, None}
 use Rattle.model.specs.Basics.{iter, when}
 use Rattle.args.specs.declared.Args.{Args}
-use Rattle.record_log.specs.declared.Appended.{Appended}
-use Rattle.record_log.specs.declared.Appended.TheVariants.{Used, Full as NoRoom}
 use Rattle.record_log.specs.Log.{record_of, appended, stored}
 use Rattle.execution.specs.declared.Stop.{Stop}
-use Rattle.execution.specs.declared.Stop.TheVariants.{Going, Spent, Full}
+use Rattle.execution.specs.declared.Stop.TheVariants.{Spent, Full}
 use Rattle.execution.specs.declared.Change.{Change}
 use Rattle.execution.specs.declared.Change.TheVariants.{Insert, Remove}
 use Rattle.execution.specs.declared.ExecutionState.{ExecutionState}
 
-abbrev pub goes_on : Stop → Bool
-goes_on Going = true
-goes_on Spent = false
-goes_on Full = false
+abbrev pub goes_on : Option Stop → Bool
+goes_on None = true
+goes_on (Some Spent) = false
+goes_on (Some Full) = false
 
 abbrev pub is_going : ExecutionState → Bool
 is_going s = goes_on s.stop
 
-abbrev pub stopped : Stop → ExecutionState → ExecutionState
+abbrev pub stopped : Option Stop → ExecutionState → ExecutionState
 stopped o s = record { used = s.used; counters = s.counters; changed = s.changed; stop = o }
 
 abbrev pub changing : ExecutionState → ExecutionState
@@ -34,9 +32,9 @@ abbrev pub as_logged : ExecutionState → List ℕ → Logged
 as_logged state log = record { state = state; log = log }
 
 -- after an attempt to append
-abbrev pub after_append : Appended → ExecutionState → ExecutionState
-after_append (Used n) s = record { used = n; counters = s.counters; changed = s.changed; stop = s.stop }
-after_append NoRoom s = stopped Full s
+abbrev pub after_append : Option ℕ → ExecutionState → ExecutionState
+after_append (Some n) s = record { used = n; counters = s.counters; changed = s.changed; stop = s.stop }
+after_append None s = stopped (Some Full) s
 
 -- a record of the first n words of a row
 unfoldable pub staged : (kind table : ℕ) → List ℕ → ℕ → Logged → Logged

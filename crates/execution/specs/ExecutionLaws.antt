@@ -1,8 +1,6 @@
 -- Staging by what the append answers; it uses no more words than the log has.
-use Rattle.std.specs.Prelude.{ℕ, ◌+◌, ◌≤◌, ◌≡◌, refl, Bool, true, false, cond, List, leb, length}
+use Rattle.std.specs.Prelude.{ℕ, ◌+◌, ◌≤◌, ◌≡◌, refl, Bool, true, false, cond, List, leb, length, Option, Some, None}
 use Rattle.std.proofs.Common.{leb-true}
-use Rattle.record_log.specs.declared.Appended.{Appended}
-use Rattle.record_log.specs.declared.Appended.TheVariants.{Used, Full as NoRoom}
 use Rattle.record_log.specs.Log.{record_of, appended, stored}
 use Rattle.execution.specs.declared.ExecutionState.{ExecutionState}
 use Rattle.execution.specs.Execution.{Logged, after_append, staged}
@@ -11,7 +9,7 @@ pub append_fits : (log r : List ℕ) (s : ExecutionState) → s.used ≤ length 
 unfolding appended
 append_fits log r s h = by (leb (s.used + length r) (length log)) refl
   where
-    by : (b : Bool) → leb (s.used + length r) (length log) ≡ b → (after_append (cond b (Used (s.used + length r)) NoRoom) s).used ≤ length log
+    by : (b : Bool) → leb (s.used + length r) (length log) ≡ b → (after_append (cond b (Some (s.used + length r)) None) s).used ≤ length log
     by true e = leb-true _ _ e
     by false e = h
 
@@ -19,7 +17,7 @@ module _ (kind table : ℕ) (row : List ℕ) (n : ℕ) (l : Logged) where
   abbrev rec : List ℕ
   rec = record_of kind table row n
 
-  pub staged_by : (a : Appended) (s : ExecutionState) (log : List ℕ) → a ≡ appended l.log l.state.used rec → s ≡ after_append a l.state → log ≡ stored l.log l.state.used rec → l.state.used ≤ length l.log
+  pub staged_by : (a : Option ℕ) (s : ExecutionState) (log : List ℕ) → a ≡ appended l.log l.state.used rec → s ≡ after_append a l.state → log ≡ stored l.log l.state.used rec → l.state.used ≤ length l.log
       → (◌≡◌ {A = Logged} (record { state = s; log = log }) (staged kind table row n l)) × (s.used ≤ length l.log)
   unfolding staged
   staged_by a s log e q m h = (rw (q, e, m), rw (q, e) (append_fits l.log rec l.state h))

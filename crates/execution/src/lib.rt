@@ -11,23 +11,21 @@ use counter::Counters;
 use ids::{CounterId, Lane, TableId};
 use instr::Entries;
 use mask::Mask;
-use record_log::Appended;
 
-// A run goes on; or a counter would have passed its limit (refusal 13), or a record the end of the log (refusal 12).
-#[derive(Clone, Copy)]
+// Why a run stops: a counter would have passed its limit (refusal 13), or a record the end of the log (refusal 12).
+#[derive(Clone, Copy, PartialEq, Eq, Debug)]
 pub enum Stop {
-    Going,
     Spent,
     Full,
 }
 
-// What is kept by value: how many words of the log are used, the counters, whether anything was staged, and whether the run goes on.
+// What is kept by value: how many words of the log are used, the counters, whether anything was staged, and why the run stopped, if it did.
 #[derive(Clone, Copy)]
 pub struct ExecutionState {
     pub used: usize,
     pub counters: Counters,
     pub changed: bool,
-    pub stop: Stop,
+    pub stop: Option<Stop>,
 }
 
 // The live lanes of a batch, and what the run keeps.
@@ -56,32 +54,20 @@ impl ExecutionState {
     pub fn going(self) -> bool
         ensures { result ≡ is_going self }
     {
-        let stop = self.stop;
-        match stop {
-            Stop::Going => true,
-            Stop::Spent => false,
-            Stop::Full => false,
-        }
+        self.stop.is_none()
     }
 
-    pub fn stopped(self, why: Stop) -> Self
+    pub fn stopped(self, why: Option<Stop>) -> Self
         ensures { result ≡ stopped why self }
     {
-        let counters = self.counters;
-        ExecutionState {
-            used: self.used,
-            counters,
-            changed: self.changed,
-            stop: why,
-        }
+        ExecutionState { stop: why, ..self }
     }
 
     // A counter's next number.
     pub fn read_counter(self, c: CounterId) -> u32
         ensures { result ≡ get_or self.counters.next c.0 0 }
     {
-        let counters = self.counters;
-        counters.read(c)
+        self.counters.read(c)
     }
 
     // Something was staged.
@@ -90,6 +76,23 @@ impl ExecutionState {
     {
         self.changed = true;
         self
+    }
+
+    // A record of kind 0 or 1, which changes a table.
+    fn stage_changing(
+        self,
+        kind: u32,
+        table: TableId,
+        row: &[u32; 16],
+        count: usize,
+        log: &mut [u32],
+    ) -> Self
+        requires { (self.used ≤ length log.old) × (count ≤ 16) }
+        ensures is { let t = staged kind table.0 row.now count (as_logged self log.old) in
+            as_logged result log.new ≡ as_logged (changing t.state) t.log }
+        ensures fits { result.used ≤ length log.old }
+    {
+        stage(self, kind, table, row, count, log).set_changed()
     }
 
     // An insert of the first `count` words of a row.
@@ -105,8 +108,7 @@ impl ExecutionState {
             (as_logged self log.old) }
         ensures fits { result.used ≤ length log.old }
     {
-        let t = stage(self, 0, table, row, count, log);
-        t.set_changed()
+        self.stage_changing(0, table, row, count, log)
     }
 
     // A removal of the key that the first `count` words of a row are.
@@ -122,14 +124,14 @@ impl ExecutionState {
             (as_logged self log.old) }
         ensures fits { result.used ≤ length log.old }
     {
-        let t = stage(self, 1, table, row, count, log);
-        t.set_changed()
+        self.stage_changing(1, table, row, count, log)
     }
 }
 
 // A record of the first `count` words of a row: an insert is of kind 0, a removal of kind 1, a predicted row of kind 2.
+#[tactic(auto, unfolding(crate::specs::Execution::staged, record_log::specs::Log::appended))]
 pub fn stage(
-    mut s: ExecutionState,
+    s: ExecutionState,
     kind: u32,
     table: TableId,
     row: &[u32; 16],
@@ -140,17 +142,14 @@ pub fn stage(
     ensures is { as_logged result log.new ≡ staged kind table.0 row.now count (as_logged s log.old) }
     ensures fits { result.used ≤ length log.old }
 {
-    let used = s.used;
-    match record_log::append(log, used, kind, table, row, count) {
-        Appended::Used(n) => {
-            s.used = n;
-            s
-        }
-        Appended::Full => s.stopped(Stop::Full),
+    match record_log::append(log, s.used, kind, table, row, count) {
+        Some(n) => ExecutionState { used: n, ..s },
+        None => s.stopped(Some(Stop::Full)),
     }
 }
 
 // What a lane stages, if it is live and the run goes on.
+#[tactic(auto, unfolding(crate::specs::Execution::staged_lane, bindings::specs::Columns::fetched))]
 fn stage_lane(
     words: &[u32],
     bindings: &[u32],
@@ -168,11 +167,10 @@ fn stage_lane(
 {
     if live & s.going() {
         let row = lanes::fetch(words, bindings, what.vals, lane);
-        let vals = row.vals;
-        let change = what.change;
-        return match change {
-            Change::Insert => s.stage_insert(what.table, &vals, row.count, log),
-            Change::Remove => s.stage_remove(what.table, &vals, row.count, log),
+        // returned here: as the value of an `if` and its `else` the state would be copied once more
+        return match what.change {
+            Change::Insert => s.stage_insert(what.table, &row.vals, row.count, log),
+            Change::Remove => s.stage_remove(what.table, &row.vals, row.count, log),
         };
     }
     s
@@ -193,12 +191,9 @@ pub fn stage_lanes(
         mask.live (as_logged start log.old) }
     ensures fits { result.used ≤ length log.old }
 {
-    let n = mask.end();
     let mut s = start;
-    let mut i = 0;
-    while i < n {
+    for i in 0..mask.end() {
         s = stage_lane(words, bindings, what, mask.live[i], Lane(i), s, log);
-        i += 1;
     }
     s
 }

@@ -1,7 +1,6 @@
 -- Laws of the model's functions: how many arguments each takes, that it answers on no other number of them, and what stands past the last number.
-use Rattle.std.specs.Prelude.{ℕ, ◌-◌, ◌<◌, ◌≤◌, ◌≡◌, refl, ◌≢◌, Bool, true, false, List, [], ◌∷◌, eqb, length, get_or, set}
+use Rattle.std.specs.Prelude.{ℕ, ◌-◌, ◌<◌, ◌≤◌, ◌≡◌, refl, ◌≢◌, Bool, true, false, List, [], ◌∷◌, eqb, length, get_or, set, Option, None, Some}
 use Rattle.std.proofs.Common.{ap, ◌∙◌, arith, eqb→eq, eqb-true, eq-eqb, ne_eqb, get_or-set_other}
-use Rattle.std.proofs.Math.Option.{Option, none, some}
 use Rattle.std.proofs.lemmas.Bool.{eqb-false}
 use Rattle.std.proofs.Math.ListN.{get_or-eq_default}
 use Rattle.model.specs.Basics.{only}
@@ -15,11 +14,11 @@ all_two f h =
     rw (← get_or-set_other functions 6 f no_function no_function h)
     (All-get_or (λ g. takes g ≡ 2) (set functions 6 no_function) f no_function (refl, (refl, (refl, (refl, (refl, (refl, (refl, (refl, tt)))))))) refl)
 
-answers_fit : (g : Function) (args : List ℕ) (w : ℕ) → answers g args ≡ some w → length args ≡ takes g
+answers_fit : (g : Function) (args : List ℕ) (w : ℕ) → answers g args ≡ Some w → length args ≡ takes g
 answers_fit g args w e = eqb→eq (length args) (takes g) (only_some (eqb (length args) (takes g)) (on_first g args) e).0
 
 -- on one argument the band alone answers
-pub only_band : (f a w : ℕ) → apply f (a ∷ []) ≡ some w → f ≡ 6
+pub only_band : (f a w : ℕ) → apply f (a ∷ []) ≡ Some w → f ≡ 6
 only_band f a w e = by (eqb f 6) refl
   where
     by : (b : Bool) → eqb f 6 ≡ b → f ≡ 6
@@ -45,12 +44,12 @@ answered_by_two f k g l o e m t p =
     let two : length l - 1 ≡ 1 = ap (λ (n : ℕ). n - 1) (m ∙ ap arity e ∙ ap takes t) in
     answered f k l o e m (rw (t, ← two) p)
 
-pub other_counts : (f : ℕ) (l : List ℕ) → length l ≢ arity f → apply f l ≡ none
+pub other_counts : (f : ℕ) (l : List ℕ) → length l ≢ arity f → apply f l ≡ None
 other_counts f l m = rw (ne_eqb (length l) (arity f) m)
 
-only_none : (b : Bool) → only {A = ℕ} b none ≡ none
+only_none : (b : Bool) → only {A = ℕ} b None ≡ None
 only_none true = refl
 only_none false = refl
 
-pub no_function_lem : (f : ℕ) (args : List ℕ) → function_count ≤ f → apply f args ≡ none
+pub no_function_lem : (f : ℕ) (args : List ℕ) → function_count ≤ f → apply f args ≡ None
 no_function_lem f args h = rw (get_or-eq_default functions no_function {n = f} h) (only_none (eqb (length args) 2))

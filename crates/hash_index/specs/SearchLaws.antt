@@ -1,5 +1,5 @@
 -- A search along the chain of a key's home passes over no row that has the key.
-use Rattle.std.specs.Prelude.{◌≡◌, ℕ, zero, suc, ◌+◌, ◌-◌, ◌<◌, ◌≤◌, Bool, true, false, ◌&&◌, ◌≢◌, List, length, nat_le, nat_lt, slice_index}
+use Rattle.std.specs.Prelude.{◌≡◌, ℕ, zero, suc, ◌+◌, ◌-◌, ◌<◌, ◌≤◌, Bool, true, false, ◌&&◌, ◌≢◌, List, length, nat_le, nat_lt, slice_index, Some}
 use Rattle.std.proofs.Math.Path.{refl, sym, ap}
 use Rattle.std.proofs.Common.{◌∙◌, subst, zero-add}
 use Rattle.std.proofs.Math.Decide.{dec_lt}
@@ -10,7 +10,6 @@ use Rattle.model.specs.Book.Decode.{part}
 use Rattle.model.specs.Laws.Logic.{eq_list_eq, either, le_cases, and_split}
 use Rattle.words.specs.Filled.{tab_agree}
 use Rattle.tables.specs.declared.TableInfo.{TableInfo}
-use Rattle.tables.specs.declared.Found.TheVariants.{At}
 use Rattle.tables.specs.Tables.{front, same_words, row_at, found_row}
 use Rattle.tables.specs.TablesLaws.{part_word, key_word, found_at}
 use Rattle.hash_index.specs.FoldLaws.{folded_below}
@@ -109,7 +108,7 @@ module _ (w : List ℕ) (t : TableInfo) (key : List ℕ) where
         }
 
     -- the row that a search has come to is the first with the key
-    pub first_row : (p : ℕ) → Standing p → is_row w t key b p ≡ true → At (row_at t (p - 1 - b)) ≡ found_row w t key
+    pub first_row : (p : ℕ) → Standing p → is_row w t key b p ≡ true → Some (row_at t (p - 1 - b)) ≡ found_row w t key
     first_row p s e =
         let r = row_told_lem b p e in
         found_at w t key (p - 1 - b) (omega (arith, r.after, r.within)) (λ j l. s.before j (omega (arith, r.after, r.within)) (omega (arith, r.after))) r.same

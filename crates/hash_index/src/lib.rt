@@ -3,26 +3,19 @@
 
 mod all_tables;
 
-ghost use Rattle.std.specs.Prelude.{◌≡◌, ◌+◌, ◌-◌, ◌*◌, ◌^◌, ◌<◌, ◌≤◌, true, length, replicate, slice_index};
+ghost use Rattle.std.specs.Prelude.{◌≡◌, ◌+◌, ◌-◌, ◌<◌, ◌≤◌, false, true, length, replicate, slice_index, MatchOption};
 ghost use Rattle.tables.specs.Tables.{Stands, row_at, found_row};
-ghost use Rattle.hash_index.specs.Fold.{spun, mixed};
+ghost use Rattle.hash_index.specs.Fold.{mixed};
 ghost use Rattle.hash_index.specs.Index.{home_at, home_in, end_of, added, rows_added, indexed, Tails, Has, is_row, IndexAmong, IndexOf, serves};
 
 pub use all_tables::{build_all, rows_before};
-use tables::{Found, TableInfo};
+use tables::TableInfo;
 
-// A product by an odd number, wrapping at 32 bits: its high bits depend on all bits of h.
-fn spin(h: u32) -> u32
-    ensures { result ≡ spun h }
-{
-    let product = (h as u64) * 2654435761;
-    (product % 4294967296) as u32
-}
-
+// A product by an odd number, wrapping at 32 bits: its high bits depend on all bits of the sum.
 pub fn mix(h: u32, x: u32) -> u32
     ensures { result ≡ mixed h x }
 {
-    spin(std::num::wrapping_add_u32(h, x))
+    h.wrapping_add(x).wrapping_mul(2654435761)
 }
 
 // The home of the k words at `at`: the high 10 bits of these words, folded.
@@ -30,12 +23,7 @@ pub fn home(words: &[u32], at: usize, k: usize) -> usize
     requires { at + k ≤ length words.now }
     ensures { (result ≡ home_at words.now at k) × (result < 1024) }
 {
-    let mut h = 0u32;
-    let mut i = 0;
-    while i < k {
-        h = mix(h, words[at + i]);
-        i += 1;
-    }
+    let h = words[at..at + k].iter().fold(0, |h, x| mix(h, *x));
     words::size(h / 4194304)
 }
 
@@ -48,6 +36,7 @@ fn end_of(last: usize, h: usize) -> usize
 }
 
 // One row more, of number n and home h, at the end of its chain.
+#[tactic(auto, unfolding(crate::specs::Index::added))]
 pub fn add(index: &mut [u32], n: usize, h: usize)
     requires { (length index.old ≡ 18432) × (n < 16384) × (h < 1024) × (slice_index index.old (1024 + h) ≤ n) }
     ensures { index.new ≡ added n h index.old }
@@ -59,16 +48,14 @@ pub fn add(index: &mut [u32], n: usize, h: usize)
 }
 
 // All rows of a table, numbered from `first` on.
+#[tactic(auto, using(crate::specs::IndexLaws::tails_more), unfolding(crate::specs::Index::rows_added))]
 pub fn add_rows(words: &[u32], info: TableInfo, first: usize, index: &mut [u32])
     requires { Stands words.now info × (first + info.rows ≤ 16384) × Tails first index.old }
     ensures { index.new ≡ rows_added words.now info first info.rows index.old }
 {
-    let mut at = info.at;
-    let mut i = 0;
-    while i < info.rows {
+    for i in 0..info.rows {
+        let at = info.at + i * info.width;
         add(index, first + i, home(words, at, info.keys));
-        at += info.width;
-        i += 1;
     }
 }
 
@@ -80,41 +67,39 @@ pub fn build(words: &[u32], info: TableInfo, index: &mut [u32])
     add_rows(words, info, 0, index)
 }
 
-// The first word of row p - 1 of all rows, which is one of a table whose first row has the number `first`.
-fn place(info: TableInfo, first: usize, p: usize) -> usize
-    requires { (first < p) × (p ≤ first + info.rows) × (info.at + info.rows * info.width < 2 ^ 64) }
-    ensures { result ≡ row_at info (p - 1 - first) }
-{
-    info.at + (p - 1 - first) * info.width
-}
-
-// Whether row p - 1 of all rows is one of the table, and has the key.
-fn is_row(words: &[u32], info: TableInfo, first: usize, p: usize, key: &[u32; 16]) -> bool
+// The first word of row p - 1 of all rows, if it is one of the table and has the key.
+#[tactic(auto, using(tables::specs::TablesLaws::row_within), unfolding(crate::specs::Index::is_row))]
+fn its_row(words: &[u32], info: TableInfo, first: usize, p: usize, key: &[u32; 16]) -> Option<usize>
     requires { Stands words.now info × (first + info.rows ≤ 16384) }
-    ensures { result ≡ is_row words.now info key.now first p }
+    ensures { MatchOption result (is_row words.now info key.now first p ≡ false)
+        (λ at. (is_row words.now info key.now first p ≡ true) × (at ≡ row_at info (p - 1 - first))) }
 {
-    if p <= first {
-        return false;
+    if p <= first || first + info.rows < p {
+        return None;
     }
-    if first + info.rows < p {
-        return false;
-    }
-    tables::same_words(words, place(info, first, p), key, info.keys)
+    let at = info.at + (p - 1 - first) * info.width;
+    tables::same_words(words, at, key, info.keys).then_some(at)
 }
 
 // The row with the key, as `tables::find` finds it.
-fn find(words: &[u32], index: &[u32], info: TableInfo, first: usize, key: &[u32; 16]) -> Found
+fn find(
+    words: &[u32],
+    index: &[u32],
+    info: TableInfo,
+    first: usize,
+    key: &[u32; 16],
+) -> Option<usize>
     requires { Stands words.now info × Has words.now info first index.now }
     ensures { result ≡ found_row words.now info key.now }
 {
     let mut p = words::size(index[home(key, 0, info.keys)]);
     while p != 0 {
-        if is_row(words, info, first, p, key) {
-            return Found::At(place(info, first, p));
+        if let Some(at) = its_row(words, info, first, p, key) {
+            return Some(at);
         }
         p = words::size(index[2047 + p]);
     }
-    Found::Nothing
+    None
 }
 
 // The same, where an empty index is none, and all rows are looked at.
@@ -124,18 +109,19 @@ pub fn look_up_among(
     info: TableInfo,
     first: usize,
     key: &[u32; 16],
-) -> Found
+) -> Option<usize>
     requires { Stands words.now info × IndexAmong words.now info first index.now }
     ensures { result ≡ found_row words.now info key.now }
 {
-    if index.len() == 0 {
+    if index.is_empty() {
         return tables::find(words, info, key);
     }
     find(words, index, info, first, key)
 }
 
 // The same of a table that has the index alone.
-pub fn look_up(words: &[u32], index: &[u32], info: TableInfo, key: &[u32; 16]) -> Found
+#[tactic(auto, using(crate::specs::BookLaws::among_alone))]
+pub fn look_up(words: &[u32], index: &[u32], info: TableInfo, key: &[u32; 16]) -> Option<usize>
     requires { Stands words.now info × IndexOf words.now info index.now }
     ensures { result ≡ found_row words.now info key.now }
 {
@@ -146,5 +132,5 @@ pub fn look_up(words: &[u32], index: &[u32], info: TableInfo, key: &[u32; 16]) -
 pub fn serves(rows: usize) -> bool
     ensures { result ≡ serves rows }
 {
-    (32 <= rows) & (rows <= 16384)
+    (32..=16384).contains(&rows)
 }

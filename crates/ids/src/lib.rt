@@ -13,7 +13,7 @@ pub struct TableId(pub u32);
 pub struct CounterId(pub u32);
 
 // A variable of a rule, 0 to 31.
-#[derive(Clone, Copy)]
+#[derive(Clone, Copy, PartialEq, Eq)]
 pub struct Variable(pub u32);
 
 // A function, 0 to 7.

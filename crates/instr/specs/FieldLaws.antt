@@ -1,9 +1,8 @@
 -- Where an instruction's fields stand.
 use Prim.Native.Nat.{ℕ, zero, suc, ◌+◌, ◌*◌, ◌≤◌}
-use Rattle.std.specs.Prelude.{◌≡◌, get_or, take}
+use Rattle.std.specs.Prelude.{◌≡◌, get_or, take, Option, None, Some}
 use Rattle.std.proofs.Math.Path.{refl, ap}
 use Rattle.std.proofs.Common.{sym, ◌∙◌}
-use Rattle.std.proofs.Math.Option.{Option, none, some}
 use mathlib.Core.List.{List, [], ◌∷◌}
 use native.Mathlib.Omega.{arith}
 use Rattle.model.specs.Basics.{found}
@@ -20,8 +19,8 @@ use Rattle.instr.specs.Fields.{field_of, fields_of, past_field}
 module _ (w : List ℕ) where
   past_first : (o : Option layout.Field) (fs : List layout.Field) (q : ℕ) → past w (found o (λ g. g ∷ fs) (λ _. fs)) q ≡ past w fs (found o (λ g. after w g q) (λ _. q))
   unfolding past
-  past_first none fs q = refl
-  past_first (some g) fs q = refl
+  past_first None fs q = refl
+  past_first (Some g) fs q = refl
 
   pub past_more : (fs : List code.Field) (k q : ℕ) → past w (fields_of (take (suc k) fs)) q ≡ past_field w (get_or fs k Nothing) (past w (fields_of (take k fs)) q)
   unfolding past

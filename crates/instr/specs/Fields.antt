@@ -1,6 +1,5 @@
 -- The fields of an instruction: what each holds, and where it stands.
-use Rattle.std.specs.Prelude.{ℕ, ◌+◌, List, [], ◌∷◌, get_or}
-use Rattle.std.proofs.Math.Option.{Option, none, some}
+use Rattle.std.specs.Prelude.{ℕ, ◌+◌, List, [], ◌∷◌, get_or, Option, None, Some}
 use Rattle.model.specs.Basics.{found}
 use Rattle.model.specs.Book.Layout as layout
 use Rattle.model.specs.Book.Decode as decode
@@ -9,16 +8,16 @@ use Rattle.instr.specs.declared.layout.Field.TheVariants.{Nothing, Table, Counte
 use Rattle.instr.specs.declared.layout.Part.{Part}
 
 abbrev pub field_of : Field → Option layout.Field
-field_of Nothing = none
-field_of Table = some layout.table
-field_of Counter = some layout.counter
-field_of Function = some layout.function
-field_of Dst = some layout.dst
-field_of Column = some layout.column
-field_of Divider = some layout.divider
-field_of Entry = some layout.entry
-field_of Entries = some layout.entries
-field_of Writes = some layout.writes
+field_of Nothing = None
+field_of Table = Some layout.table
+field_of Counter = Some layout.counter
+field_of Function = Some layout.function
+field_of Dst = Some layout.dst
+field_of Column = Some layout.column
+field_of Divider = Some layout.divider
+field_of Entry = Some layout.entry
+field_of Entries = Some layout.entries
+field_of Writes = Some layout.writes
 
 abbrev pub fields_of : List Field → List layout.Field
 fields_of [] = []

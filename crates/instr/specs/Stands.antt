@@ -1,12 +1,10 @@
 -- What is known of an instruction of a book that can be read, and the variable that an instruction binds.
-use Rattle.std.specs.Prelude.{ℕ, ◌<◌, ◌≤◌, List}
-use Rattle.std.proofs.Math.Option.{Option, none, some}
+use Rattle.std.specs.Prelude.{ℕ, ◌<◌, ◌≤◌, List, Option, None, Some}
 use Rattle.model.specs.Book.Contents.{table_count}
 use Rattle.instr.specs.declared.Entries.{Entries}
-use Rattle.instr.specs.declared.Dst.{Dst}
-use Rattle.instr.specs.declared.Dst.TheVariants.{Var, Nothing}
 use Rattle.instr.specs.declared.Instr.{Instr}
 use Rattle.instr.specs.declared.Instr.TheVariants.{LookupOrInsertDefault, LookupWithDefault, Lookup, LookupWithFallback, Insert, InsertIfEq, Remove, External, ExternalWithFallback, AssertEq, AssertNe, AssertAnyNe, ReadCounter}
+use Rattle.ids.specs.declared.Variable.{Variable}
 
 -- a list that stands in a book
 abbrev pub Short : Entries → Type 0
@@ -30,24 +28,24 @@ Stands w (ReadCounter counter dst) = dst.0 < 32
 
 -- the variable that an instruction binds
 abbrev pub binds_of : Instr → Option ℕ
-binds_of (LookupOrInsertDefault table args default col dst) = some dst.0
-binds_of (LookupWithDefault table args col dst default) = some dst.0
-binds_of (Lookup table args col dst) = some dst.0
-binds_of (LookupWithFallback table key func args col dst) = some dst.0
-binds_of (Insert table vals) = none
-binds_of (InsertIfEq table l r vals) = none
-binds_of (Remove table args) = none
-binds_of (External func args dst) = some dst.0
-binds_of (ExternalWithFallback f1 args1 f2 args2 dst) = some dst.0
-binds_of (AssertEq l r) = none
-binds_of (AssertNe l r) = none
-binds_of (AssertAnyNe ops divider) = none
-binds_of (ReadCounter counter dst) = some dst.0
+binds_of (LookupOrInsertDefault table args default col dst) = Some dst.0
+binds_of (LookupWithDefault table args col dst default) = Some dst.0
+binds_of (Lookup table args col dst) = Some dst.0
+binds_of (LookupWithFallback table key func args col dst) = Some dst.0
+binds_of (Insert table vals) = None
+binds_of (InsertIfEq table l r vals) = None
+binds_of (Remove table args) = None
+binds_of (External func args dst) = Some dst.0
+binds_of (ExternalWithFallback f1 args1 f2 args2 dst) = Some dst.0
+binds_of (AssertEq l r) = None
+binds_of (AssertNe l r) = None
+binds_of (AssertAnyNe ops divider) = None
+binds_of (ReadCounter counter dst) = Some dst.0
 
-abbrev pub variable_of : Dst → Option ℕ
-variable_of (Var v) = some v.0
-variable_of Nothing = none
+abbrev pub variable_of : Option Variable → Option ℕ
+variable_of (Some v) = Some v.0
+variable_of None = None
 
 abbrev pub IsVariable : Option ℕ → Type 0
-IsVariable none = Unit {0}
-IsVariable (some v) = v < 32
+IsVariable None = Unit {0}
+IsVariable (Some v) = v < 32

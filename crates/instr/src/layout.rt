@@ -38,6 +38,7 @@ pub struct Parts {
 }
 
 // The fields of an instruction by its opcode.
+#[tactic(auto, unfolding(model::specs::Book::Layout::form_of, model::specs::Basics::tab))]
 pub fn fields(op: u32) -> [Field; 6]
     ensures all { fields_of result ≡ (layout.form_of op).fields }
     ensures firsts { tab (λ k. fields_of (take k result)) 6 ≡ tab (λ k. take k (layout.form_of op).fields) 6 }
@@ -61,6 +62,7 @@ pub fn fields(op: u32) -> [Field; 6]
 }
 
 // The word past a field that stands at p.
+#[tactic(auto, unfolding(model::specs::Book::Decode::after))]
 fn past_field(words: &[u32], f: Field, p: usize) -> usize
     requires { p ≤ 1099511627776 }
     ensures { (result ≡ past_field words.now f p) × (result ≤ p + 8589934591) }
@@ -74,6 +76,7 @@ fn past_field(words: &[u32], f: Field, p: usize) -> usize
 }
 
 // The fields of the instruction whose opcode stands at p.
+#[tactic(auto, unfolding(model::specs::Book::Decode::past, model::specs::Book::Decode::next, model::specs::Basics::tab))]
 pub fn parts_at(words: &[u32], p: usize) -> Parts
     requires { p ≤ 16384 }
     ensures all { result.fields ≡ tab (λ k. part_at words.now (decode.field_place words.now p k)) 6 }
@@ -86,16 +89,13 @@ pub fn parts_at(words: &[u32], p: usize) -> Parts
         rest: 0,
     }; 6];
     let mut q = p + 1;
-    let mut k = 0;
-    while k < 6 {
+    for (k, kind) in kinds.iter().enumerate() {
         all[k] = Part {
             first: words::word(words, q),
             second: words::word(words, q + 1),
             rest: q + 1,
         };
-        let kind = kinds[k];
-        q = past_field(words, kind, q);
-        k += 1;
+        q = past_field(words, *kind, q);
     }
     Parts {
         fields: all,

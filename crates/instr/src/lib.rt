@@ -3,7 +3,7 @@
 
 pub mod layout;
 
-ghost use Rattle.std.specs.Prelude.{◌≡◌, ◌+◌, ◌≤◌, ◌<◌, [], ◌∷◌};
+ghost use Rattle.std.specs.Prelude.{◌≡◌, ◌+◌, ◌≤◌, ◌<◌};
 ghost use Rattle.model.specs.Book.Decode as decode;
 ghost use Rattle.instr.specs.Instr as specs;
 ghost use Rattle.instr.specs.Stands.{binds_of, variable_of};
@@ -101,36 +101,30 @@ pub enum Instr {
     },
 }
 
-// The variable that an instruction binds, or none.
-#[derive(Clone, Copy)]
-pub enum Dst {
-    Var(Variable),
-    Nothing,
-}
-
 impl Instr {
-    pub fn dst(self) -> Dst
+    pub fn dst(self) -> Option<Variable>
         ensures { variable_of result ≡ binds_of self }
     {
         match self {
-            Instr::LookupOrInsertDefault { dst_var, .. } => Dst::Var(dst_var),
-            Instr::LookupWithDefault { dst_var, .. } => Dst::Var(dst_var),
-            Instr::Lookup { dst_var, .. } => Dst::Var(dst_var),
-            Instr::LookupWithFallback { dst_var, .. } => Dst::Var(dst_var),
-            Instr::Insert { .. } => Dst::Nothing,
-            Instr::InsertIfEq { .. } => Dst::Nothing,
-            Instr::Remove { .. } => Dst::Nothing,
-            Instr::External { dst, .. } => Dst::Var(dst),
-            Instr::ExternalWithFallback { dst, .. } => Dst::Var(dst),
-            Instr::AssertEq(..) => Dst::Nothing,
-            Instr::AssertNe(..) => Dst::Nothing,
-            Instr::AssertAnyNe { .. } => Dst::Nothing,
-            Instr::ReadCounter { dst, .. } => Dst::Var(dst),
+            Instr::LookupOrInsertDefault { dst_var, .. }
+            | Instr::LookupWithDefault { dst_var, .. }
+            | Instr::Lookup { dst_var, .. }
+            | Instr::LookupWithFallback { dst_var, .. } => Some(dst_var),
+            Instr::External { dst, .. }
+            | Instr::ExternalWithFallback { dst, .. }
+            | Instr::ReadCounter { dst, .. } => Some(dst),
+            Instr::Insert { .. }
+            | Instr::InsertIfEq { .. }
+            | Instr::Remove { .. }
+            | Instr::AssertEq(..)
+            | Instr::AssertNe(..)
+            | Instr::AssertAnyNe { .. } => None,
         }
     }
 }
 
 // The entry x by its tag.
+#[tactic(auto, unfolding(crate::specs::Instr::entry_by))]
 fn entry_of(tag: u32, x: u32) -> QueryEntry
     ensures { result ≡ specs.entry_by tag x }
 {
@@ -149,7 +143,7 @@ pub fn entry_at(words: &[u32], p: usize) -> QueryEntry
 }
 
 // The write value whose tag stands at p.
-#[tactic(auto, using(crate::specs::InstrLaws::write_rest), unfolding(crate::specs::Instr::write_by))]
+#[tactic(auto, unfolding(crate::specs::Instr::write_by))]
 pub fn write_at(words: &[u32], p: usize) -> WriteVal
     requires { p ≤ 1099511627776 }
     ensures { result ≡ specs.write_at words.now p }
@@ -170,8 +164,10 @@ pub fn list_at(words: &[u32], p: usize) -> Entries
     ensures is { result ≡ specs.list_at words.now p }
     ensures small { (result.at ≡ p + 1) × (result.count < 4294967296) }
 {
-    let count = words::size(words::word(words, p));
-    Entries { at: p + 1, count }
+    Entries {
+        at: p + 1,
+        count: words::size_at(words, p),
+    }
 }
 
 impl Part {
@@ -194,76 +190,70 @@ impl Part {
 }
 
 // The instruction of an opcode by its fields.
-fn instr_of(op: u32, f0: Part, f1: Part, f2: Part, f3: Part, f4: Part, f5: Part) -> Instr
-    ensures { result ≡ specs.instr_by (f0 ∷ f1 ∷ f2 ∷ f3 ∷ f4 ∷ f5 ∷ []) op }
+#[tactic(auto, unfolding(crate::specs::Instr::instr_by))]
+fn instr_of(op: u32, fields: [Part; 6]) -> Instr
+    ensures { result ≡ specs.instr_by fields op }
 {
-    // What some opcode has as an entry, or as a list.
-    let entry0 = f0.entry();
-    let entry1 = f1.entry();
-    let entry2 = f2.entry();
-    let entry4 = f4.entry();
-    let list1 = f1.list();
-    let list2 = f2.list();
-    let list3 = f3.list();
+    let [f0, f1, f2, f3, f4, f5] = fields;
     match op {
         1 => Instr::LookupOrInsertDefault {
             table: TableId(f0.first),
-            args: list1,
-            default: list2,
+            args: f1.list(),
+            default: f2.list(),
             dst_col: ColumnId(f3.first),
             dst_var: Variable(f4.first),
         },
         2 => Instr::LookupWithDefault {
             table: TableId(f0.first),
-            args: list1,
+            args: f1.list(),
             dst_col: ColumnId(f2.first),
             dst_var: Variable(f3.first),
-            default: entry4,
+            default: f4.entry(),
         },
         3 => Instr::Lookup {
             table: TableId(f0.first),
-            args: list1,
+            args: f1.list(),
             dst_col: ColumnId(f2.first),
             dst_var: Variable(f3.first),
         },
         4 => Instr::LookupWithFallback {
             table: TableId(f0.first),
-            table_key: list1,
+            table_key: f1.list(),
             func: ExternalFunctionId(f2.first),
-            func_args: list3,
+            func_args: f3.list(),
             dst_col: ColumnId(f4.first),
             dst_var: Variable(f5.first),
         },
         5 => Instr::Insert {
             table: TableId(f0.first),
-            vals: list1,
+            vals: f1.list(),
         },
         6 => Instr::InsertIfEq {
             table: TableId(f0.first),
-            l: entry1,
-            r: entry2,
-            vals: list3,
+            l: f1.entry(),
+            r: f2.entry(),
+            vals: f3.list(),
         },
         7 => Instr::Remove {
             table: TableId(f0.first),
-            args: list1,
+            args: f1.list(),
         },
         8 => Instr::External {
             func: ExternalFunctionId(f0.first),
-            args: list1,
+            args: f1.list(),
             dst: Variable(f2.first),
         },
         9 => Instr::ExternalWithFallback {
             f1: ExternalFunctionId(f0.first),
-            args1: list1,
+            args1: f1.list(),
             f2: ExternalFunctionId(f2.first),
-            args2: list3,
+            args2: f3.list(),
             dst: Variable(f4.first),
         },
-        10 => Instr::AssertEq(entry0, entry1),
-        11 => Instr::AssertNe(entry0, entry1),
+        10 => Instr::AssertEq(f0.entry(), f1.entry()),
+        11 => Instr::AssertNe(f0.entry(), f1.entry()),
         12 => Instr::AssertAnyNe {
-            ops: list1,
+            ops: f1.list(),
             divider: words::size(f0.first),
         },
         13 => Instr::ReadCounter {
@@ -282,8 +272,7 @@ pub fn instr_at(words: &[u32], p: usize) -> Instr
     requires { p ≤ 16384 }
     ensures { result ≡ specs.instr_at words.now p }
 {
-    let f = layout::parts_at(words, p).fields;
-    instr_of(words::word(words, p), f[0], f[1], f[2], f[3], f[4], f[5])
+    instr_of(words::word(words, p), layout::parts_at(words, p).fields)
 }
 
 // The word past the instruction whose opcode stands at p.

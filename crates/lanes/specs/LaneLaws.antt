@@ -1,7 +1,6 @@
 -- What the code of the passes leans on.
-use Rattle.std.specs.Prelude.{ℕ, zero, suc, ◌+◌, ◌-◌, ◌*◌, ◌≤◌, ◌<◌, min, ◌≡◌, refl, true, false, List, [], ◌∷◌, length, get_or, take, drop, replicate}
+use Rattle.std.specs.Prelude.{ℕ, zero, suc, ◌+◌, ◌-◌, ◌*◌, ◌≤◌, ◌<◌, min, ◌≡◌, refl, true, false, List, [], ◌∷◌, length, get_or, take, drop, replicate, Some}
 use Rattle.std.proofs.Common.{sym, ◌∙◌, arith, add-one, length-drop, length-take, get_or-take, get_or-drop, eq-eqb, ne_eqb}
-use Rattle.std.proofs.Math.Option.{some}
 use Rattle.model.specs.Basics.{tab}
 use Rattle.model.specs.Laws.Lists.{length_tab}
 use Rattle.model.specs.Machine.Steps.{any_ne}
@@ -24,7 +23,7 @@ listed_words w m i l was vals e =
 
 -- ## An entry that is asked for
 
-pub asked_entry : (w m : List ℕ) (e : QueryEntry) (i : ℕ) → asked w m (entry_ask e) i ≡ some (word_of m i (entry_of e))
+pub asked_entry : (w m : List ℕ) (e : QueryEntry) (i : ℕ) → asked w m (entry_ask e) i ≡ Some (word_of m i (entry_of e))
 unfolding entry_ask asked
 asked_entry w m (entry.Var v) i = refl
 asked_entry w m (entry.Const x) i = refl

@@ -1,7 +1,5 @@
 -- What each lane is answered, and whether it passes a test: w is the book's words, m the memory of the bindings.
-use Rattle.std.specs.Prelude.{ℕ, ◌+◌, ◌*◌, ◌≡◌, Bool, true, false, ◌&&◌, not, List, [], eqb, get_or, take, drop}
-use Rattle.std.proofs.Math.Option.{Option, some}
-use Rattle.std.proofs.Math.ListN.{get_elem?}
+use Rattle.std.specs.Prelude.{ℕ, ◌+◌, ◌*◌, ◌≡◌, Bool, true, false, ◌&&◌, not, List, [], eqb, get_or, take, drop, Option, Some, slice_get}
 use Rattle.model.specs.Basics.{found, only, tab}
 use Rattle.model.specs.Machine.Functions.{apply}
 use Rattle.model.specs.Machine.Steps.{any_ne}
@@ -26,10 +24,10 @@ module _ (w m : List ℕ) where
 
   -- what lane i is answered; the row is sought in no log
   unfoldable pub asked : Ask → ℕ → Option ℕ
-  asked (Lookup of key col) i = get_elem? (row_of home_of w [] [] of (listed i key).vals) col.0
+  asked (Lookup of key col) i = slice_get (row_of home_of w [] [] of (listed i key).vals) col.0
   asked (External func args) i = apply func.0 (as_list (listed i args))
-  asked (Var v) i = some (get_or m (256 * v.0 + i) 0)
-  asked (Const x) i = some x
+  asked (Var v) i = Some (get_or m (256 * v.0 + i) 0)
+  asked (Const x) i = Some x
 
   -- whether lane i passes
   unfoldable pub holds : Test → ℕ → Bool

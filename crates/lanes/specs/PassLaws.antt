@@ -1,8 +1,7 @@
 -- A pass over the lanes goes to the last live one: past it, it would change nothing. It changes the marks of its mask as it goes.
-use Rattle.std.specs.Prelude.{ℕ, ◌+◌, ◌≤◌, ◌<◌, ◌≡◌, refl, Bool, true, ◌&&◌, List, length, get_or, set}
+use Rattle.std.specs.Prelude.{ℕ, ◌+◌, ◌≤◌, ◌<◌, ◌≡◌, refl, Bool, true, ◌&&◌, List, length, get_or, set, Option, Some}
 use Rattle.std.proofs.Common.{ap, ◌∙◌, arith, length-set}
 use Rattle.std.proofs.Math.Bool.{false}
-use Rattle.std.proofs.Math.Option.{Option, some}
 use Rattle.std.proofs.lemmas.List.{set-get_or}
 use Rattle.model.specs.Basics.{iter, only, tab}
 use Rattle.model.specs.Laws.Iter.{iter_rest}
@@ -69,10 +68,10 @@ module _ (ask : ℕ → Option ℕ) (live : List Bool) (out : List ℕ) where
       (passed_turn live mark live i marks b false a.0 h (p.0 ∙ ap is_some g), rw p.1 (passed_turn live word out i words _ 0 a.1 h (rw (g, passed_next live word out i words 0 a.1))))
 
   -- a turn in which the lane is answered if it is live, so that its mark stays
-  pub answered_still : (i : ℕ) (words : List ℕ) (x y : ℕ) → Answered i live words → i < 256 → ask i ≡ some x → y ≡ or_else (only (get_or live i false) (some x)) (get_or words i 0) → Answered (i + 1) live (set words i y)
-  answered_still i words x y a h e q = rw (set-get_or live i false) at (answered_turn i live words (set words i y) (only (get_or live i false) (some x)) (get_or live i false) a h (rw e) (by (get_or live i false), rw q))
+  pub answered_still : (i : ℕ) (words : List ℕ) (x y : ℕ) → Answered i live words → i < 256 → ask i ≡ Some x → y ≡ or_else (only (get_or live i false) (Some x)) (get_or words i 0) → Answered (i + 1) live (set words i y)
+  answered_still i words x y a h e q = rw (set-get_or live i false) at (answered_turn i live words (set words i y) (only (get_or live i false) (Some x)) (get_or live i false) a h (rw e) (by (get_or live i false), rw q))
     where
-      by : (b : Bool) → b ≡ is_some (only b (some x))
+      by : (b : Bool) → b ≡ is_some (only b (Some x))
       by true = refl
       by false = refl
 

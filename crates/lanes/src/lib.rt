@@ -1,22 +1,18 @@
 // The passes over the lanes of a batch that only read: what each live lane is answered, and which lanes pass a test. An index of the book's rows may be lent as `chains`; an empty one is none.
 #![tactic(auto)]
 
-ghost use Rattle.std.specs.Prelude.{◌≡◌, ◌&&◌, ◌+◌, ◌*◌, ◌≤◌, ◌<◌, min, length, get_or, set, take, drop};
-ghost use Rattle.std.proofs.Math.Option.{some};
-ghost use Rattle.std.proofs.Math.ListN.{get_elem?};
+ghost use Rattle.std.specs.Prelude.{ℕ, Bool, Option, ◌≡◌, ◌&&◌, length, take, drop, Some, slice_get};
 ghost use Rattle.model.specs.Basics.{only};
 ghost use Rattle.model.specs.Machine.Steps.{any_ne};
-ghost use Rattle.functions.specs.Answers.{answer_of};
 ghost use Rattle.bindings.specs.Columns.{word_of};
 ghost use Rattle.instr.specs.Meaning.{entry_of};
 ghost use Rattle.instr.specs.Stands.{Short};
 ghost use Rattle.predicted_index.specs.Row.{Searchable};
 ghost use Rattle.lanes.specs.declared.Ask.TheVariants.{Lookup, External};
 ghost use Rattle.lanes.specs.declared.Test.TheVariants.{AnyNe};
-ghost use Rattle.lanes.specs.Lanes.{listed, entry_ask, asked, AskFits, holds, agreed, TestFits, is_some, or_else, answered_lanes, answered_words, Fills, kept};
+ghost use Rattle.lanes.specs.Lanes.{listed, entry_ask, asked, AskFits, holds, agreed, TestFits, or_else, answered_lanes, answered_words, Fills, kept};
 
 use args::Args;
-use functions::Answer;
 use ids::{ColumnId, ExternalFunctionId, Lane, Variable};
 use instr::{Entries, QueryEntry};
 use mask::Mask;
@@ -47,6 +43,7 @@ pub enum Test {
 }
 
 // What an entry stands for is asked for.
+#[tactic(auto, unfolding(crate::specs::Lanes::entry_ask))]
 pub fn entry_ask(e: QueryEntry) -> Ask
     ensures { result ≡ entry_ask e }
 {
@@ -75,17 +72,17 @@ pub fn value(bindings: &[u32], e: QueryEntry, lane: Lane) -> u32
 }
 
 // The column of a row, which has no words where there is none.
-fn column(row: &[u32], col: ColumnId) -> Answer
-    ensures { answer_of result ≡ get_elem? row.now col.0 }
+fn column(row: &[u32], col: ColumnId) -> Option<u32>
+    ensures { result ≡ slice_get row.now col.0 }
 {
-    let c = words::size(col.0);
-    if c < row.len() {
-        return Answer::Word(row[c]);
+    match row.get(words::size(col.0)) {
+        Some(word) => Some(*word),
+        None => None,
     }
-    Answer::Nothing
 }
 
-// What a table answers in a lane: a column of the committed row with the key. A lane that is not live is not asked.
+// What a table answers in a lane: a column of the committed row with the key.
+#[tactic(auto, unfolding(crate::specs::Lanes::asked, bindings::specs::Columns::fetched))]
 fn look_up(
     words: &[u32],
     chains: &[u32],
@@ -93,61 +90,58 @@ fn look_up(
     of: Sought,
     key: Entries,
     col: ColumnId,
-    live: bool,
     lane: Lane,
-) -> Answer
+) -> Option<u32>
     requires { Searchable words.now chains.now of × Short key }
-    ensures { answer_of result ≡ only live (asked words.now bindings.now (Lookup of key col) lane.0) }
+    ensures { result ≡ asked words.now bindings.now (Lookup of key col) lane.0 }
 {
-    if live {
-        let mut vals = [0u32; 16];
-        bindings::fetch_into(words, bindings, lane, key.at, key.count, &mut vals);
-        // the log is not looked at
-        let row = predicted_index::row_of(words, &words[..0], chains, &words[..0], of, &vals);
-        return column(row, col);
-    }
-    Answer::Nothing
+    let mut vals = [0u32; 16];
+    bindings::fetch_into(words, bindings, lane, key.at, key.count, &mut vals);
+    // the log is not looked at
+    let row = predicted_index::row_of(words, &words[..0], chains, &words[..0], of, &vals);
+    column(row, col)
 }
 
-// What a function answers in a lane, likewise; `vals` is lent for its arguments.
+// What a function answers in a lane; `vals` is lent for its arguments.
 fn invoke(
     words: &[u32],
     bindings: &[u32],
     func: ExternalFunctionId,
     args: Entries,
-    live: bool,
     lane: Lane,
-    vals: &mut [u32],
-) -> Answer
-    requires { Short args × (length vals.old ≡ 16) }
-    ensures { answer_of result ≡ only live (asked words.now bindings.now (External func args) lane.0) }
+    vals: &mut [u32; 16],
+) -> Option<u32>
+    requires { Short args }
+    ensures { result ≡ asked words.now bindings.now (External func args) lane.0 }
 {
-    if live {
-        let count = args.count;
-        bindings::fetch_into(words, bindings, lane, args.at, count, vals);
-        return functions::invoke(func, &vals[..count]);
-    }
-    Answer::Nothing
+    let count = args.count;
+    bindings::fetch_into(words, bindings, lane, args.at, count, vals);
+    functions::invoke(func, &vals[..count])
 }
 
-// The word of a lane that is answered goes to `out`; whether it is.
-fn put(given: Answer, lane: Lane, out: &mut [u32]) -> bool
-    requires { lane.0 < length out.old }
-    ensures mark { result ≡ is_some (answer_of given) }
-    ensures word { out.new ≡ set out.old lane.0
-        (or_else (answer_of given) (get_or out.old lane.0 0)) }
+// A pass of `fill`: each live lane has the word that `answer` gives it, and is live no more where it gives none. What `answer` is lent is for its arguments. The families are told apart here, outside of the loop.
+fn fill_by<F: Fn(Lane, &mut [u32; 16]) -> Option<u32>>(
+    mut mask: Mask,
+    out: &mut [u32],
+    answer: F,
+) -> Mask
+    requires { F.IsAlwaysCallable answer × (length out.old ≡ 256) }
+    ensures { (ask : ℕ → Option ℕ)
+        → ((lane : _) (lent : _) (r : Option ℕ) (left : _) → F.post answer lane lent r left → r ≡ ask lane.0)
+        → Fills ask mask.live out.old result.live out.new }
 {
-    match given {
-        Answer::Word(x) => {
-            let i = lane.0;
-            out[i] = x;
-            true
+    let mut vals = [0u32; 16];
+    for i in 0..mask.end() {
+        if mask.live[i] {
+            match answer(Lane(i), &mut vals) {
+                Some(word) => out[i] = word,
+                None => mask.live[i] = false,
+            }
         }
-        Answer::Nothing => false,
     }
+    mask
 }
 
-// The passes of `fill`, one for each kind of question: inside them nothing is told apart but the lanes.
 fn lookup_row_vectorized(
     words: &[u32],
     chains: &[u32],
@@ -155,21 +149,18 @@ fn lookup_row_vectorized(
     of: Sought,
     key: Entries,
     col: ColumnId,
-    mut mask: Mask,
+    mask: Mask,
     out: &mut [u32],
 ) -> Mask
     requires { Searchable words.now chains.now of × Short key × (length out.old ≡ 256) }
     ensures { Fills (asked words.now bindings.now (Lookup of key col)) mask.live
         out.old result.live out.new }
 {
-    let n = mask.end();
-    let mut i = 0;
-    while i < n {
-        let given = look_up(words, chains, bindings, of, key, col, mask.live[i], Lane(i));
-        mask.live[i] = put(given, Lane(i), out);
-        i += 1;
-    }
-    mask
+    fill_by(
+        mask,
+        out,
+        |lane, _| look_up(words, chains, bindings, of, key, col, lane),
+    )
 }
 
 // The Rust's `invoke_batch_assign` too: words that are in `out` already stay where a lane is not answered.
@@ -178,35 +169,23 @@ fn invoke_batch(
     bindings: &[u32],
     func: ExternalFunctionId,
     args: Entries,
-    mut mask: Mask,
+    mask: Mask,
     out: &mut [u32],
 ) -> Mask
     requires { Short args × (length out.old ≡ 256) }
     ensures { Fills (asked words.now bindings.now (External func args)) mask.live
         out.old result.live out.new }
 {
-    let n = mask.end();
-    let mut vals = [0u32; 16];
-    let mut i = 0;
-    while i < n {
-        let given = invoke(
-            words,
-            bindings,
-            func,
-            args,
-            mask.live[i],
-            Lane(i),
-            &mut vals,
-        );
-        mask.live[i] = put(given, Lane(i), out);
-        i += 1;
-    }
-    mask
+    fill_by(
+        mask,
+        out,
+        |lane, vals| invoke(words, bindings, func, args, lane, vals),
+    )
 }
 
 // x in a live lane, else the word that is there.
 fn chosen(live: bool, x: u32, other: u32) -> u32
-    ensures { result ≡ or_else (only live (some x)) other }
+    ensures { result ≡ or_else (only live (Some x)) other }
 {
     if live { x } else { other }
 }
@@ -214,19 +193,17 @@ fn chosen(live: bool, x: u32, other: u32) -> u32
 // An entry answers every lane, so that the mask stays.
 fn fill_entry(bindings: &[u32], e: QueryEntry, mask: Mask, out: &mut [u32]) -> Mask
     requires { length out.old ≡ 256 }
-    ensures { Fills (λ i. some (word_of bindings.now i (entry_of e))) mask.live
+    ensures { Fills (λ i. Some (word_of bindings.now i (entry_of e))) mask.live
         out.old result.live out.new }
 {
-    let n = mask.end();
-    let mut i = 0;
-    while i < n {
+    for i in 0..mask.end() {
         out[i] = chosen(mask.live[i], value(bindings, e, Lane(i)), out[i]);
-        i += 1;
     }
     mask
 }
 
 // Each lane of the mask that is answered has its word in `out`; the lanes that were.
+#[tactic(auto, unfolding(crate::specs::Lanes::asked))]
 pub fn fill(
     words: &[u32],
     chains: &[u32],
@@ -250,25 +227,16 @@ pub fn fill(
     }
 }
 
-fn least(a: usize, b: usize) -> usize
-    ensures { result ≡ min a b }
-{
-    if a <= b { a } else { b }
-}
-
 // Whether some pair of the two sides, before the divider and from it on, differs; up to the shorter side.
 fn any_ne(ops: &[u32], divider: usize) -> bool
     ensures { result ≡ any_ne (take divider ops.now) (drop divider ops.now) }
 {
-    let count = ops.len();
-    let left = least(divider, count);
-    let pairs = least(left, count - left);
-    let mut k = 0;
-    while k < pairs {
-        if ops[k] != ops[left + k] {
+    let (left, right) = ops.split_at(divider.min(ops.len()));
+    // by place: a zip of the sides would test for two ends at each pair
+    for k in 0..left.len().min(right.len()) {
+        if left[k] != right[k] {
             return true;
         }
-        k += 1;
     }
     false
 }
@@ -278,63 +246,51 @@ fn agree(bindings: &[u32], l: QueryEntry, r: QueryEntry, equal: bool, lane: Lane
     ensures { result ≡ agreed bindings.now l r equal lane.0 }
 {
     let same = value(bindings, l, lane) == value(bindings, r, lane);
-    if equal { same } else { !same }
+    same == equal
 }
 
-// Whether a lane is live and some pair of its words differs.
-fn differ(
-    words: &[u32],
-    bindings: &[u32],
-    ops: Entries,
-    divider: usize,
-    live: bool,
-    lane: Lane,
-) -> bool
+// Whether some pair of a lane's words differs.
+fn differ(words: &[u32], bindings: &[u32], ops: Entries, divider: usize, lane: Lane) -> bool
     requires { Short ops }
-    ensures { result ≡ (live && holds words.now bindings.now (AnyNe ops divider) lane.0) }
+    ensures { result ≡ holds words.now bindings.now (AnyNe ops divider) lane.0 }
 {
-    if live {
-        let count = ops.count;
-        let mut vals = [0u32; 16];
-        bindings::fetch_into(words, bindings, lane, ops.at, count, &mut vals);
-        return any_ne(&vals[..count], divider);
-    }
-    false
+    let count = ops.count;
+    let mut vals = [0u32; 16];
+    bindings::fetch_into(words, bindings, lane, ops.at, count, &mut vals);
+    any_ne(&vals[..count], divider)
 }
 
-// The passes of `retain`.
-fn assert_impl(bindings: &[u32], l: QueryEntry, r: QueryEntry, equal: bool, mut mask: Mask) -> Mask
-    ensures { result.live ≡ kept (agreed bindings.now l r equal) mask.live }
+// A pass of `retain`: `passes` tells of each lane, by whether it is live, whether it stays.
+fn retain_by<F: Fn(bool, Lane) -> bool>(mut mask: Mask, passes: F) -> Mask
+    requires { F.IsAlwaysCallable passes }
+    ensures { (test : ℕ → Bool)
+        → ((live : Bool) (lane : _) (r : Bool) → F.post passes live lane r → r ≡ (live && test lane.0))
+        → result.live ≡ kept test mask.live }
 {
-    let n = mask.end();
-    let mut i = 0;
-    while i < n {
-        mask.live[i] = mask.live[i] & agree(bindings, l, r, equal, Lane(i));
-        i += 1;
+    for i in 0..mask.end() {
+        mask.live[i] = passes(mask.live[i], Lane(i));
     }
     mask
 }
 
-fn retain_any_ne(
-    words: &[u32],
-    bindings: &[u32],
-    ops: Entries,
-    divider: usize,
-    mut mask: Mask,
-) -> Mask
+fn assert_impl(bindings: &[u32], l: QueryEntry, r: QueryEntry, equal: bool, mask: Mask) -> Mask
+    ensures { result.live ≡ kept (agreed bindings.now l r equal) mask.live }
+{
+    retain_by(mask, |live, lane| live & agree(bindings, l, r, equal, lane))
+}
+
+fn retain_any_ne(words: &[u32], bindings: &[u32], ops: Entries, divider: usize, mask: Mask) -> Mask
     requires { Short ops }
     ensures { result.live ≡ kept (holds words.now bindings.now (AnyNe ops divider)) mask.live }
 {
-    let n = mask.end();
-    let mut i = 0;
-    while i < n {
-        mask.live[i] = differ(words, bindings, ops, divider, mask.live[i], Lane(i));
-        i += 1;
-    }
-    mask
+    retain_by(
+        mask,
+        |live, lane| live && differ(words, bindings, ops, divider, lane),
+    )
 }
 
 // The lanes of the mask that pass; the others are dropped.
+#[tactic(auto, unfolding(crate::specs::Lanes::holds))]
 pub fn retain(words: &[u32], bindings: &[u32], test: Test, mask: Mask) -> Mask
     requires { TestFits test }
     ensures { result.live ≡ kept (holds words.now bindings.now test) mask.live }

@@ -1,36 +1,16 @@
 // Which lanes of a batch are live: a mask by value, with a mark for each of 256 lanes.
 #![tactic(auto)]
 
-ghost use Rattle.std.specs.Prelude.{◌≡◌, true, false, not, cond, ◌≤◌, ◌<◌, max, get_or, set};
+ghost use Rattle.std.specs.Prelude.{◌≡◌, false, not, ◌≤◌, set};
 ghost use Rattle.model.specs.Machine.Steps.{any_live};
 ghost use Rattle.mask.specs.Masks.{first_lanes, united, without, count, end};
 
 use ids::Lane;
+use std::array;
 
 #[derive(Clone, Copy)]
 pub struct Mask {
     pub live: [bool; 256],
-}
-
-// A lane as a byte. With this, and with `marked` and `later` as functions of their own, `end` compiles to a maximum of bytes, 16 lanes at once.
-#[derive(Clone, Copy)]
-struct LaneByte(u8);
-
-// A lane if it is live, else lane 0.
-fn marked(lane: Lane, live: bool) -> LaneByte
-    requires { lane.0 < 256 }
-    ensures is { result.0 ≡ cond live lane.0 0 }
-    ensures within { result.0 ≤ lane.0 }
-{
-    let i = lane.0 as u8;
-    if live { LaneByte(i) } else { LaneByte(0) }
-}
-
-// The later of two lanes.
-fn later(a: LaneByte, b: LaneByte) -> LaneByte
-    ensures { result.0 ≡ max a.0 b.0 }
-{
-    if a.0 < b.0 { b } else { a }
 }
 
 impl Mask {
@@ -38,13 +18,8 @@ impl Mask {
     pub fn new(lanes: usize) -> Self
         ensures { result.live ≡ first_lanes lanes }
     {
-        let n = if lanes < 256 { lanes } else { 256 };
         let mut live = [false; 256];
-        let mut i = 0;
-        while i < n {
-            live[i] = true;
-            i += 1;
-        }
+        live[..lanes.min(256)].fill(true);
         Mask { live }
     }
 
@@ -55,33 +30,24 @@ impl Mask {
         let i = lane.0;
         if i < 256 {
             self.live[i] = false;
-            return self;
         }
         self
     }
 
     // The lanes of either.
-    pub fn union(mut self, other: Mask) -> Self
+    pub fn union(self, other: Mask) -> Self
         ensures { result.live ≡ united self.live other.live }
     {
-        let mut i = 0;
-        while i < 256 {
-            self.live[i] = self.live[i] | other.live[i];
-            i += 1;
-        }
-        self
+        let live = array::from_fn(|i| self.live[i] | other.live[i]);
+        Mask { live }
     }
 
     // The lanes that `other` does not have.
-    pub fn difference(mut self, other: Mask) -> Self
+    pub fn difference(self, other: Mask) -> Self
         ensures { result.live ≡ without self.live other.live }
     {
-        let mut i = 0;
-        while i < 256 {
-            self.live[i] = self.live[i] & !other.live[i];
-            i += 1;
-        }
-        self
+        let live = array::from_fn(|i| self.live[i] & !other.live[i]);
+        Mask { live }
     }
 
     // How many lanes are live.
@@ -89,12 +55,8 @@ impl Mask {
         ensures { result ≡ count self.live }
     {
         let mut n = 0;
-        let mut i = 0;
-        while i < 256 {
-            if self.live[i] {
-                n += 1;
-            }
-            i += 1;
+        for live in &self.live {
+            n += usize::from(*live);
         }
         n
     }
@@ -104,16 +66,16 @@ impl Mask {
         ensures is { result ≡ end self.live }
         ensures within { result ≤ 256 }
     {
-        let mut last = LaneByte(0);
-        let mut i = 0;
-        while i < 256 {
-            last = later(last, marked(Lane(i), self.live[i]));
-            i += 1;
+        // the last live lane, or 0, as a byte: this compiles to a maximum of bytes, 16 lanes at once
+        let mut last = 0u8;
+        for (i, live) in self.live.iter().enumerate() {
+            last = last.max(if *live { i as u8 } else { 0 });
         }
-        let at = last.0 as usize;
+        let at = usize::from(last);
         if self.live[at] { at + 1 } else { 0 }
     }
 
+    #[tactic(auto, using(crate::specs::MaskLaws::end_none))]
     pub fn is_empty(self) -> bool
         ensures { result ≡ not (any_live self.live) }
     {

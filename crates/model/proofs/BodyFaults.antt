@@ -3,12 +3,12 @@ use Prim.Native.Nat.{ℕ, zero, suc, ◌+◌, ◌<◌}
 use mathlib.Core.Path.{◌≡◌, refl, sym, ap, ◌∙◌, subst}
 use mathlib.Core.Logic.{◌⊎◌, inl, inr}
 use mathlib.Core.Bool.{Bool, true, false, true≢false}
-use mathlib.Core.Option.{Option, none, some}
+use Rattle.std.specs.Prelude.{Option, None, Some, slice_get}
 use mathlib.Core.List.{List, [], ◌∷◌}
 use native.Mathlib.Omega.{arith}
 use lib.Dec.{eqb}
 use borrow.Author.Tests.{eqb-true, eqb-false}
-use lib.ListN.{length, get_elem?, length-map}
+use lib.ListN.{length, length-map}
 use Rattle.model.specs.Basics.{◌else◌}
 use Rattle.model.specs.Book.Words.{Refusal}
 use Rattle.model.specs.Book.Contents.{count, kind_of, first_of, length_of, end_of}
@@ -55,12 +55,12 @@ module _ (w : List ℕ) (ok : ContentsOk w) (i : ℕ) (h : i < count w) where
   module _ (ms : List Word) (only : (ns : List Word) → LaidOut w i ns → ns ≡ ms) (F : Word → Type 0) (t : Word → Bool) (back : (m : Word) → F m → t m ≡ true) where
     no_word : first_place t first ms ≡ 0 → (p : ℕ) → WordAt w F i p → ⊥
     no_word e p v =
-        let m = subst (λ (l : List Word). get_elem? l v.2 ≡ some v.3) (only v.0 v.1) v.4 in
+        let m = subst (λ (l : List Word). slice_get l v.2 ≡ Some v.3) (only v.0 v.1) v.4 in
         true≢false (sym (back v.3 v.5) ∙ place_none t ms first s.after e v.2 v.3 m)
 
     no_earlier : (p : ℕ) → FirstAt t ms first p → (q : ℕ) → q < p → WordAt w F i q → ⊥
     no_earlier p r q l v =
-        let m = subst (λ (x : List Word). get_elem? x v.2 ≡ some v.3) (only v.0 v.1) v.4 in
+        let m = subst (λ (x : List Word). slice_get x v.2 ≡ Some v.3) (only v.0 v.1) v.4 in
         true≢false (sym (back v.3 v.5) ∙ r.before v.2 v.3 (omega (arith, l, r.is_place, v.6)) m)
 
   -- ## The four in their order
@@ -87,7 +87,7 @@ module _ (w : List ℕ) (ok : ContentsOk w) (i : ℕ) (h : i < count w) where
     abbrev no_layout : AtBody w i layout → ⊥
     no_layout v = v ms laid
 
-    found_absent : (p : ℕ) → first_place is_missing first ms ≡ suc p → Is (some (record { number = 6; place = suc p }))
+    found_absent : (p : ℕ) → first_place is_missing first ms ≡ suc p → Is (Some (record { number = 6; place = suc p }))
     found_absent p e = record {
       clear = λ n. absurd (none_some (sym n));
       first = λ r n. (absent (suc p), (ms, laid, a.index, a.here, a.there, is_missing_lem a.here a.holds, a.is_place), some_inj n, earlier);
@@ -106,7 +106,7 @@ module _ (w : List ℕ) (ok : ContentsOk w) (i : ℕ) (h : i < count w) where
       abbrev no_absent : (p : ℕ) → AtBody w i (absent p) → ⊥
       no_absent p v = no_word ms only Missing is_missing missing_is none6 p v
 
-      found_mark : (q : ℕ) → first_place is_stale first ms ≡ suc q → Is (some (record { number = 4; place = suc q }))
+      found_mark : (q : ℕ) → first_place is_stale first ms ≡ suc q → Is (Some (record { number = 4; place = suc q }))
       found_mark p e = record {
         clear = λ n. absurd (none_some (sym n));
         first = λ r n. (mark (suc p), (ms, laid, a.index, a.here, a.there, is_stale_lem a.here a.holds, a.is_place), some_inj n, earlier);
@@ -128,7 +128,7 @@ module _ (w : List ℕ) (ok : ContentsOk w) (i : ℕ) (h : i < count w) where
         abbrev is_table : Bool
         is_table = eqb (kind_of w i) 1
 
-        rows : (b : Bool) → is_table ≡ b → Is (elim b [ true ↦ rows_refusal w first | false ↦ none ])
+        rows : (b : Bool) → is_table ≡ b → Is (elim b [ true ↦ rows_refusal w first | false ↦ None ])
         rows false e = record { clear = λ n c v. by c v; first = λ r n. absurd (none_some n) }
           where
             by : (c : InBody) → AtBody w i c → ⊥
@@ -138,13 +138,13 @@ module _ (w : List ℕ) (ok : ContentsOk w) (i : ℕ) (h : i < count w) where
             by (repeat row) v = eqb-false (kind_of w i) 1 e v.0
         rows true e = record { clear = λ n c v. by n c v; first = λ r n. of r (seq_some (repeated (read_table w first)) _ _ r n) }
           where
-            by : rows_refusal w first ≡ none → (c : InBody) → AtBody w i c → ⊥
+            by : rows_refusal w first ≡ None → (c : InBody) → AtBody w i c → ⊥
             by n layout v = no_layout v
             by n (absent p) v = no_absent p v
             by n (mark p) v = no_mark p v
             by n (repeat row) v = repeated_none (read_table w first) (seq_none (repeated (read_table w first)) _ _ n).0 row v.1 v.2
 
-            of : (r : Refusal) → ((row : ℕ) × (repeated (read_table w first) ≡ some row) × (record { number = 5; place = row_place w first row } ≡ r)) ⊎ ((repeated (read_table w first) ≡ none) × (none ≡ some r))
+            of : (r : Refusal) → ((row : ℕ) × (repeated (read_table w first) ≡ Some row) × (record { number = 5; place = row_place w first row } ≡ r)) ⊎ ((repeated (read_table w first) ≡ None) × (None ≡ Some r))
                 → (c : InBody) × AtBody w i c × (says c ≡ r) × ((d : InBody) → Before (body_order d) (body_order c) → AtBody w i d → ⊥)
             of r (inr n) = absurd (none_some n.1)
             of r (inl n) = (repeat n.0, (eqb-true (kind_of w i) 1 e, a.0, a.1), n.2, earlier)
@@ -160,7 +160,7 @@ module _ (w : List ℕ) (ok : ContentsOk w) (i : ℕ) (h : i < count w) where
 
     -- after the walk came to its end
     laid_exact : (n p q : ℕ) → first_place is_missing first ms ≡ p → first_place is_stale first ms ≡ q
-        → Is (drew6 (good n p q) else λ _. drew4 (good n p q) else λ _. elim (eqb (kind_of w i) 1) [ true ↦ rows_refusal w first | false ↦ none ])
+        → Is (drew6 (good n p q) else λ _. drew4 (good n p q) else λ _. elim (eqb (kind_of w i) 1) [ true ↦ rows_refusal w first | false ↦ None ])
     laid_exact n (suc p) q a b = found_absent p a
     laid_exact n zero (suc q) a b = found_mark a q b
     laid_exact n zero zero a b = rows a b (eqb (kind_of w i) 1) refl
@@ -169,7 +169,7 @@ module _ (w : List ℕ) (ok : ContentsOk w) (i : ℕ) (h : i < count w) where
   unfolding body_refusal
   body_exact = of (parse_body w end (sizes w) first s.order (kind_of w i))
     where
-      of : Parse w end Form first 0 0 (walk w i) → Is (drew3 i (walk w i) else λ _. drew6 (walk w i) else λ _. drew4 (walk w i) else λ _. elim (eqb (kind_of w i) 1) [ true ↦ rows_refusal w first | false ↦ none ])
+      of : Parse w end Form first 0 0 (walk w i) → Is (drew3 i (walk w i) else λ _. drew6 (walk w i) else λ _. drew4 (walk w i) else λ _. elim (eqb (kind_of w i) 1) [ true ↦ rows_refusal w first | false ↦ None ])
       of (is_bad e no') = rw e (record {
         clear = λ n. absurd (none_some (sym n));
         first = λ r n. (layout, (λ ms v. no' ms (laid_fits ms v)), some_inj n, λ c b v. before_layout c b);

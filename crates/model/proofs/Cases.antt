@@ -3,7 +3,7 @@ use Prim.Native.Nat.{ℕ}
 use native.Mathlib.Omega.{arith}
 use mathlib.Core.Path.{◌≡◌, refl}
 use mathlib.Core.Bool.{true}
-use mathlib.Core.Option.{none}
+use Rattle.std.specs.Prelude.{None}
 use mathlib.Core.List.{List, [], ◌∷◌}
 use Rattle.model.specs.Basics.{All}
 use Rattle.model.specs.Book.Words.{Byte, bytes_of}
@@ -35,7 +35,7 @@ unfolding bytes_of
 bytes_of_lem [] = tt
 bytes_of_lem (w ∷ ws) = (omega arith, (omega arith, (omega arith, (omega arith, bytes_of_lem ws))))
 
-k1_unrefused : book_refusal k1_bytes ≡ none
+k1_unrefused : book_refusal k1_bytes ≡ None
 unfolding computed
 k1_unrefused = refl
 

@@ -2,13 +2,13 @@
 use Prim.Native.Nat.{ℕ, zero, suc, ◌+◌, ◌≤◌, ◌<◌}
 use mathlib.Core.Path.{◌≡◌, refl, ◌∙◌, subst}
 use mathlib.Core.Bool.{Bool, true, false, not, cond, false≢true}
-use mathlib.Core.Option.{some}
+use Rattle.std.specs.Prelude.{Some, slice_get}
 use mathlib.Core.List.{List, [], ◌∷◌, map}
 use native.Mathlib.Numerals.{add-one}
 use native.Mathlib.Omega.{arith}
 use lib.Dec.{eqb, ltb}
 use borrow.Author.Tests.{ltb-false, eqb-true, le-ltb}
-use lib.ListN.{length, get_or, get_elem?}
+use lib.ListN.{length, get_or}
 use lib.Seq.{drop-cons}
 use Rattle.model.specs.Book.Syntax.{stale}
 use Rattle.model.specs.Book.Scan.{fine, six, four, good, earliest, mark}
@@ -80,12 +80,12 @@ pass_draws (m ∷ ms) at p q h = go m.role m.word (pass_draws ms (at + 1))
         by false = ih p q (omega arith) ∙ cc more
 
 module _ (t : Word → Bool) where
-  pub place_none : (ms : List Word) (at : ℕ) → 0 < at → first_place t at ms ≡ 0 → (k : ℕ) (m : Word) → get_elem? ms k ≡ some m → t m ≡ false
+  pub place_none : (ms : List Word) (at : ℕ) → 0 < at → first_place t at ms ≡ 0 → (k : ℕ) (m : Word) → slice_get ms k ≡ Some m → t m ≡ false
   unfolding first_place
   place_none [] at h e k m g = absurd (none_some g)
   place_none (x ∷ ms) at h e k m g = by (t x) refl k g (λ e' k' g'. place_none ms (at + 1) (omega arith) e' k' m g') e
     where
-      by : (b : Bool) → t x ≡ b → (k : ℕ) → get_elem? (x ∷ ms) k ≡ some m → (first_place t (at + 1) ms ≡ 0 → (k : ℕ) → get_elem? ms k ≡ some m → t m ≡ false) → cond b at (first_place t (at + 1) ms) ≡ 0 → t m ≡ false
+      by : (b : Bool) → t x ≡ b → (k : ℕ) → slice_get (x ∷ ms) k ≡ Some m → (first_place t (at + 1) ms ≡ 0 → (k : ℕ) → slice_get ms k ≡ Some m → t m ≡ false) → cond b at (first_place t (at + 1) ms) ≡ 0 → t m ≡ false
       by true q k g ih e = absurd (omega (arith, e))
       by false q zero g ih e = subst (λ (y : Word). t y ≡ false) (some_inj g) q
       by false q (suc k) g ih e = ih e k g
@@ -94,10 +94,10 @@ module _ (t : Word → Bool) where
   pub record FirstAt (ms : List Word) (at p : ℕ) : Type 0 where
     pub index : ℕ
     pub here : Word
-    pub there : get_elem? ms index ≡ some here
+    pub there : slice_get ms index ≡ Some here
     pub holds : t here ≡ true
     pub is_place : p ≡ at + index
-    pub before : (j : ℕ) (m : Word) → j < index → get_elem? ms j ≡ some m → t m ≡ false
+    pub before : (j : ℕ) (m : Word) → j < index → slice_get ms j ≡ Some m → t m ≡ false
 
   pub place_some : (ms : List Word) (at p : ℕ) → 0 < p → first_place t at ms ≡ p → FirstAt ms at p
   unfolding first_place
@@ -110,7 +110,7 @@ module _ (t : Word → Bool) where
           let r = ih e in
           record { index = suc r.index; here = r.here; there = r.there; holds = r.holds; is_place = omega (arith, r.is_place); before = λ j m l g. earlier r j m l g }
         where
-          earlier : (r : FirstAt ms (at + 1) p) (j : ℕ) (m : Word) → j < suc r.index → get_elem? (x ∷ ms) j ≡ some m → t m ≡ false
+          earlier : (r : FirstAt ms (at + 1) p) (j : ℕ) (m : Word) → j < suc r.index → slice_get (x ∷ ms) j ≡ Some m → t m ≡ false
           earlier r zero m l g = subst (λ (y : Word). t y ≡ false) (some_inj g) q
           earlier r (suc j) m l g = r.before j m (omega arith) g
 

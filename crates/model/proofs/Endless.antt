@@ -4,10 +4,10 @@ use native.Mathlib.Omega.{arith}
 use mathlib.Core.Path.{◌≡◌, refl, sym, ap, ◌∙◌, subst}
 use mathlib.Core.Logic.{◌⊎◌, inl, inr, ◌≢◌}
 use mathlib.Core.Bool.{true, false, false≢true}
-use mathlib.Core.Option.{Option, none, some}
+use Rattle.std.specs.Prelude.{Option, None, Some, slice_get}
 use mathlib.Core.List.{List, [], ◌++◌, append-nil, append_assoc}
 use lib.Dec.{leb}
-use lib.ListN.{length, get_elem?}
+use lib.ListN.{length}
 use Rattle.model.specs.Basics.{found}
 use Rattle.model.specs.Book.Syntax.{Counter, Step}
 use Rattle.model.specs.Machine.State.{State, Record, going, full, is_going, Env, log_words}
@@ -36,25 +36,25 @@ module _ (E : Env) (counters : List Counter) (steps : List Step) where
   unfolding run
   idle k e = rw e
 
-  pub next : (k : ℕ) (st : Step) → (ran k).status ≡ going → get_elem? steps k ≡ some st → ran (suc k) ≡ step E k st (ran k)
+  pub next : (k : ℕ) (st : Step) → (ran k).status ≡ going → slice_get steps k ≡ Some st → ran (suc k) ≡ step E k st (ran k)
   unfolding run
-  next k st g e = when_T (is_going (ran k).status) (λ s. found (get_elem? steps k) (λ x. step E k x s) (λ _. s)) (ran k) (ap is_going g) ∙ ap (λ o. found o (λ x. step E k x (ran k)) (λ _. ran k)) e
+  next k st g e = when_T (is_going (ran k).status) (λ s. found (slice_get steps k) (λ x. step E k x s) (λ _. s)) (ran k) (ap is_going g) ∙ ap (λ o. found o (λ x. step E k x (ran k)) (λ _. ran k)) e
 
-  past_end : (k : ℕ) → get_elem? steps k ≡ none → ran (suc k) ≡ ran k
+  past_end : (k : ℕ) → slice_get steps k ≡ None → ran (suc k) ≡ ran k
   unfolding run
   past_end k e = rw e (when_ind (λ x. x ≡ ran k) (is_going (ran k).status) (λ s. s) (ran k) (λ _. refl) refl)
 
   -- what a step leaves (the room beside it does not matter here)
-  stepped : (k : ℕ) (st : Step) → (ran k).status ≡ going → get_elem? steps k ≡ some st → Later (setting E 0) 1 (ran k).log (ran k).answers (ran (suc k))
+  stepped : (k : ℕ) (st : Step) → (ran k).status ≡ going → slice_get steps k ≡ Some st → Later (setting E 0) 1 (ran k).log (ran k).answers (ran (suc k))
   stepped k st g e = subst (Later (setting E 0) 1 (ran k).log (ran k).answers) (sym (next k st g e)) (step_goes E 0 k st (ran k) g).later
 
   -- a step is run, or leaves the run as it is
-  pub next_ind : (P : State → Type 0) (k : ℕ) → P (ran k) → ((st : Step) → (ran k).status ≡ going → get_elem? steps k ≡ some st → P (ran (suc k))) → P (ran (suc k))
-  next_ind P k p h = either (λ g. go g (get_elem? steps k) refl) (λ e. subst P (sym (idle k e)) p) (goes? (ran k).status)
+  pub next_ind : (P : State → Type 0) (k : ℕ) → P (ran k) → ((st : Step) → (ran k).status ≡ going → slice_get steps k ≡ Some st → P (ran (suc k))) → P (ran (suc k))
+  next_ind P k p h = either (λ g. go g (slice_get steps k) refl) (λ e. subst P (sym (idle k e)) p) (goes? (ran k).status)
     where
-      go : (ran k).status ≡ going → (o : Option Step) → get_elem? steps k ≡ o → P (ran (suc k))
-      go g none e = subst P (sym (past_end k e)) p
-      go g (some st) e = h st g e
+      go : (ran k).status ≡ going → (o : Option Step) → slice_get steps k ≡ o → P (ran (suc k))
+      go g None e = subst P (sym (past_end k e)) p
+      go g (Some st) e = h st g e
 
   -- ## The log only grows
 

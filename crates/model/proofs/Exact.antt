@@ -3,7 +3,7 @@ use Prim.Native.Nat.{ℕ, ◌<◌}
 use mathlib.Core.Path.{◌≡◌, refl, sym, ap, ◌∙◌, subst}
 use mathlib.Core.Logic.{◌⊎◌, inl, inr}
 use mathlib.Core.Bool.{Bool, true, true≢false}
-use mathlib.Core.Option.{Option, none, some}
+use Rattle.std.specs.Prelude.{Option, None, Some}
 use mathlib.Core.List.{List, [], ◌∷◌}
 use native.Mathlib.Decide.{dec_lt}
 use native.Mathlib.Omega.{arith}
@@ -17,8 +17,8 @@ use Rattle.model.specs.Laws.Lists.{first_some_none, first_some_some}
 
 -- a refusal is drawn where something of A is at fault, and then says the first such
 pub record Exact (A : Type 0) (rank : A → List ℕ) (At : A → Type 0) (says : A → Refusal) (o : Option Refusal) : Type 0 where
-  pub clear : o ≡ none → (a : A) → At a → ⊥
-  pub first : (r : Refusal) → o ≡ some r → (a : A) × At a × (says a ≡ r) × ((b : A) → Before (rank b) (rank a) → At b → ⊥)
+  pub clear : o ≡ None → (a : A) → At a → ⊥
+  pub first : (r : Refusal) → o ≡ Some r → (a : A) × At a × (says a ≡ r) × ((b : A) → Before (rank b) (rank a) → At b → ⊥)
 
 -- with the fault said in other words
 pub exact_map : (A : Type 0) (rank : A → List ℕ) (At At' : A → Type 0) (says : A → Refusal) (o : Option Refusal) → ((a : A) → At a → At' a) → ((a : A) → At' a → At a) → Exact A rank At says o → Exact A rank At' says o

@@ -1,10 +1,10 @@
 -- A step on a log with less room beside the same step on a log with more.
 use Prim.Native.Nat.{ℕ, ◌+◌}
 use mathlib.Core.Bool.{Bool, true, false, ◌&&◌, not}
-use mathlib.Core.Option.{Option, none, some}
+use Rattle.std.specs.Prelude.{Option, None, Some, slice_get}
 use mathlib.Core.List.{List, []}
 use lib.Dec.{eqb}
-use lib.ListN.{length, get_or, get_elem?, replicate}
+use lib.ListN.{length, get_or, replicate}
 use Rattle.model.specs.Basics.{when, only}
 use Rattle.model.specs.Book.Syntax.{no_counter, next_of, WriteVal, Instr, LookupOrInsertDefault, LookupWithDefault, Lookup, LookupWithFallback, Insert, InsertIfEq, Remove, External, ExternalWithFallback, AssertEq, AssertNe, AssertAnyNe, ReadCounter, dst_of, width, Rule, Step, batch, prediction, rule_at}
 use Rattle.model.specs.Machine.State.{State, Site, is_going, took, asks, mask, Env, note, lose, change, reply, frame, survivors, predicted}
@@ -33,15 +33,15 @@ module _ (S : Setting) where
   body_goes k j (AssertEq l r) = lanes_goes S _ _ (λ i s. two_goes S (here k j i) l r _ _ (λ a b s'. when_goes S (not (eqb a b)) (lose i) (lose i) s' (λ _. lose_goes S i s')) s)
   body_goes k j (AssertNe l r) = lanes_goes S _ _ (λ i s. two_goes S (here k j i) l r _ _ (λ a b s'. when_goes S (eqb a b) (lose i) (lose i) s' (λ _. lose_goes S i s')) s)
   body_goes k j (AssertAnyNe d ops) = lanes_goes S _ _ (λ i s. any_goes S (here k j i) d ops s)
-  body_goes k j (ReadCounter c dst) = λ s. stay S (frame s.bindings s.live (replicate (length s.live) (some (next_of (get_or s.counters c no_counter)))) s)
+  body_goes k j (ReadCounter c dst) = λ s. stay S (frame s.bindings s.live (replicate (length s.live) (Some (next_of (get_or s.counters c no_counter)))) s)
 
   finish_goes : (k : ℕ) (d : Option ℕ) → Keeps S (finish k d) (finish k d)
   unfolding finish
   finish_goes k d s = when_goes S (is_going s.status) (λ s'. note (mask k s'.live) (bind_out d s')) (λ s'. note (mask k s'.live) (bind_out d s')) s (λ _. bound d)
     where
       bound : (d : Option ℕ) → Goes S 0 s (note (mask k s.live) (bind_out d s)) (note (mask k s.live) (bind_out d s))
-      bound none = stay S (note (mask k s.live) s)
-      bound (some x) = stay S (note (mask k s.live) (bind_out (some x) s))
+      bound None = stay S (note (mask k s.live) s)
+      bound (Some x) = stay S (note (mask k s.live) (bind_out (Some x) s))
 
   instruction_goes : (k j : ℕ) (ins : Instr) → Keeps S (instruction (less S) k j ins) (instruction S.env k j ins)
   unfolding instruction
@@ -51,7 +51,7 @@ module _ (S : Setting) where
   instructions_goes : (k : ℕ) (r : Rule) (n : ℕ) → Keeps S (instructions (less S) k r n) (instructions S.env k r n)
   unfolding instructions
   instructions_goes k r n s =
-      iter_goes S (turn (less S) k r) (turn S.env k r) (turn_idle (less S) k r) (turn_idle S.env k r) (λ j s'. found_goes S 0 (get_elem? r.instrs j) s' _ _ _ _ (λ ins _. instruction_goes k j ins s') (λ _. stay S s')) n s
+      iter_goes S (turn (less S) k r) (turn S.env k r) (turn_idle (less S) k r) (turn_idle S.env k r) (λ j s'. found_goes S 0 (slice_get r.instrs j) s' _ _ _ _ (λ ins _. instruction_goes k j ins s') (λ _. stay S s')) n s
 
   end_goes : (s : State) → Goes S 1 s (end s) (end s)
   unfolding end
@@ -64,9 +64,9 @@ module _ (S : Setting) where
   predict_goes : (o : Site) (t : ℕ) (key : List ℕ) (vs : List WriteVal) (s : State) → Goes S 1 s (predict (less S) o t key vs s) (predict S.env o t key vs s)
   unfolding predict
   predict_goes o t key vs s =
-      need_goes S 1 (only (eqb (length key) (table_of S.env t).keys && eqb (length key + length vs) (width (table_of S.env t))) (some key)) s _ _
+      need_goes S 1 (only (eqb (length key) (table_of S.env t).keys && eqb (length key + length vs) (width (table_of S.env t))) (Some key)) s _ _
       (λ _ _. found_goes S 1 (find (table_of S.env t).keys (table_of S.env t).rows key) s _ _ _ _ (λ r _. reply_goes S (predicted false r) (note (took o r) s))
-      (λ _. row_goes S 1 o (λ _. none) t key vs s _ _ (λ new r s'. answers new r s')))
+      (λ _. row_goes S 1 o (λ _. None) t key vs s _ _ (λ new r s'. answers new r s')))
     where
       answers : (new : Bool) (r : List ℕ) (s' : State) → Goes S 1 s' (reply (predicted new r) (note (took o r) (note (asks o t key r) (when new change s')))) (reply (predicted new r) (note (took o r) (note (asks o t key r) (when new change s'))))
       answers true r s' = reply_goes S (predicted true r) (note (took o r) (note (asks o t key r) (change s')))
@@ -82,4 +82,4 @@ module _ (E : Env) (L : ℕ) where
   pub step_goes : (k : ℕ) (st : Step) (s : State) → Goes setting 1 s (step (within L E) k st s) (step E k st s)
   unfolding step
   step_goes k (batch r n columns) s = batch_goes setting k (rule_at E.rules r) n (length (rule_at E.rules r).instrs) columns s
-  step_goes k (prediction t key vs) s = predict_goes setting (here k 0 0) t key vs (frame (λ _. none) [] [] s)
+  step_goes k (prediction t key vs) s = predict_goes setting (here k 0 0) t key vs (frame (λ _. None) [] [] s)

@@ -3,10 +3,10 @@ use Prim.Native.Nat.{ℕ, zero, suc, ◌≤◌}
 use native.Mathlib.Omega.{arith}
 use mathlib.Core.Path.{◌≡◌, refl, sym, ap, ◌∙◌, subst}
 use mathlib.Core.Logic.{◌⊎◌, inl, inr, ◌≢◌}
-use mathlib.Core.Option.{some}
+use Rattle.std.specs.Prelude.{Some, slice_get}
 use mathlib.Core.List.{List, [], ◌∷◌, ◌++◌, append-nil, append_assoc}
 use lib.Dec.{T}
-use lib.ListN.{length, get_elem?}
+use lib.ListN.{length}
 use Rattle.model.specs.Basics.{All}
 use Rattle.model.specs.Machine.State.{State, Record, Event, reads, Status, going, stuck, spent, full, is_going}
 use Rattle.model.specs.Claims.Trace.{In}
@@ -72,13 +72,13 @@ module _ {A : Type 0} (P : A → Type 0) where
   pub longer_trans : (xs ys zs : List A) → Longer xs ys → Longer ys zs → Longer xs zs
   longer_trans xs ys zs a b = (a.0 ++ b.0, b.1 ∙ ap (λ l. l ++ b.0) a.1 ∙ append_assoc xs a.0 b.0, All-append P a.0 b.0 a.2 b.2)
 
-  past_end : (xs ys : List A) (n : ℕ) {x : A} → length xs ≤ n → get_elem? (xs ++ ys) n ≡ some x → In x ys
+  past_end : (xs ys : List A) (n : ℕ) {x : A} → length xs ≤ n → slice_get (xs ++ ys) n ≡ Some x → In x ys
   past_end [] ys n h e = (n, e)
   past_end (y ∷ xs) ys zero h e = absurd (omega arith)
   past_end (y ∷ xs) ys (suc n) h e = past_end xs ys n (omega arith) e
 
   -- what stands past the old ones is new
-  pub longer_new : (xs ys : List A) → Longer xs ys → (n : ℕ) {x : A} → length xs ≤ n → get_elem? ys n ≡ some x → P x
+  pub longer_new : (xs ys : List A) → Longer xs ys → (n : ℕ) {x : A} → length xs ≤ n → slice_get ys n ≡ Some x → P x
   longer_new xs ys a n {x} h e = All-in P a.0 a.2 (past_end xs a.0 n h (rw a.1 at e))
 
 module _ {A : Type 0} {P Q : A → Type 0} (f : (x : A) → P x → Q x) where

@@ -3,9 +3,9 @@ use Prim.Native.Nat.{ℕ, zero, suc, ◌≤◌}
 use mathlib.Core.Path.{◌≡◌, refl, sym, ap, ◌∙◌}
 use mathlib.Core.Logic.{◌⊎◌, inl, inr}
 use mathlib.Core.Bool.{false, ◌&&◌}
-use mathlib.Core.Option.{Option, none}
+use Rattle.std.specs.Prelude.{Option, None, slice_get}
 use lib.Dec.{T}
-use lib.ListN.{length, get_elem?, get_or}
+use lib.ListN.{length, get_or}
 use Rattle.model.specs.Basics.{iter, when, found}
 use Rattle.model.specs.Book.Syntax.{Instr, Rule}
 use Rattle.model.specs.Machine.State.{State, Status, going, stuck, spent, full, is_going, Env}
@@ -39,7 +39,7 @@ module _ (f : ℕ → State → State) (h : (i : ℕ) → Idle (f i)) where
 
 pub missed_idle : (f : ℕ → State → State) → Idle (missed f)
 unfolding missed
-missed_idle f s e = iter_idle (λ i t. when (is_live t i && is_none (get_or t.out i none)) (f i) t) (λ i t h. rw h) (length s.live) s e
+missed_idle f s e = iter_idle (λ i t. when (is_live t i && is_none (get_or t.out i None)) (f i) t) (λ i t h. rw h) (length s.live) s e
 
 pub finish_idle : (k : ℕ) (d : Option ℕ) → Idle (finish k d)
 unfolding finish
@@ -57,10 +57,10 @@ module _ (E : Env) (k : ℕ) where
   module _ (r : Rule) where
     -- instruction j, if the rule has as many
     abbrev pub turn : ℕ → State → State
-    turn j s = found (get_elem? r.instrs j) (λ ins. instruction E k j ins s) (λ _. s)
+    turn j s = found (slice_get r.instrs j) (λ ins. instruction E k j ins s) (λ _. s)
 
     pub turn_idle : (j : ℕ) → Idle (turn j)
-    turn_idle j s e = found_ind (λ x. x ≡ s) (get_elem? r.instrs j) _ _ (λ ins _. instruction_idle j ins s e) (λ _. refl)
+    turn_idle j s e = found_ind (λ x. x ≡ s) (slice_get r.instrs j) _ _ (λ ins _. instruction_idle j ins s e) (λ _. refl)
 
     pub instructions_stay : (m n : ℕ) → m ≤ n → (s : State) → is_going (instructions E k r m s).status ≡ false → instructions E k r n s ≡ instructions E k r m s
     unfolding instructions

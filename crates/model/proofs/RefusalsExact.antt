@@ -3,7 +3,7 @@ use Prim.Native.Nat.{ℕ, suc, ◌+◌, ◌≤◌, ◌<◌}
 use mathlib.Core.Path.{◌≡◌, refl, sym, ap, ◌∙◌, subst}
 use mathlib.Core.Logic.{◌⊎◌, inl, inr, ◌≢◌, ◌↔◌}
 use mathlib.Core.Bool.{Bool, true, false, ◌&&◌}
-use mathlib.Core.Option.{Option, none, some}
+use Rattle.std.specs.Prelude.{Option, None, Some}
 use mathlib.Core.List.{List, []}
 use native.Mathlib.Omega.{arith}
 use lib.Dec.{eqb, leb}
@@ -44,8 +44,8 @@ module _ (l : Lent) (book : List ℕ) (is_bytes : All Byte book) where
 
   -- what a stage draws is the first of its faults
   record Stage (n : ℕ) (o : Option Refusal) : Type 0 where
-    clear : o ≡ none → (g : Fault) → stage_of g ≡ n → At g → ⊥
-    first : (r : Refusal) → o ≡ some r → (f : Fault) × (stage_of f ≡ n) × At f × (refusal_of book f ≡ r) × ((g : Fault) → stage_of g ≡ n → Before (within g) (within f) → At g → ⊥)
+    clear : o ≡ None → (g : Fault) → stage_of g ≡ n → At g → ⊥
+    first : (r : Refusal) → o ≡ Some r → (f : Fault) × (stage_of f ≡ n) × At f × (refusal_of book f ≡ r) × ((g : Fault) → stage_of g ≡ n → Before (within g) (within f) → At g → ⊥)
 
   -- by its own kind of fault
   module _ (n : ℕ) (A : Type 0) (make : A → Fault) (is_stage : (a : A) → stage_of (make a) ≡ n) (view : (P : Fault → Type 0) → ((a : A) → P (make a)) → (g : Fault) → stage_of g ≡ n → P g) where
@@ -57,19 +57,19 @@ module _ (l : Lent) (book : List ℕ) (is_bytes : All Byte book) where
 
   -- the chain of refusals so far: drawn for the first fault of all, or for none
   record Chain (o : Option Refusal) : Type 0 where
-    none_at : o ≡ none → (g : Fault) → At g → ⊥
-    some_at : (r : Refusal) → o ≡ some r → (f : Fault) × First l book f × (refusal_of book f ≡ r)
+    none_at : o ≡ None → (g : Fault) → At g → ⊥
+    some_at : (r : Refusal) → o ≡ Some r → (f : Fault) × First l book f × (refusal_of book f ≡ r)
 
   -- one stage, and what comes after it
-  chain : (n : ℕ) (o : Option Refusal) (k : Unit {0} → Option Refusal) → Clears n → Stage n o → (o ≡ none → Clears (suc n) → Chain (k tt)) → Chain (o else k)
+  chain : (n : ℕ) (o : Option Refusal) (k : Unit {0} → Option Refusal) → Clears n → Stage n o → (o ≡ None → Clears (suc n) → Chain (k tt)) → Chain (o else k)
   chain n o k c s h = by o refl
     where
-      clears : o ≡ none → Clears (suc n)
+      clears : o ≡ None → Clears (suc n)
       clears e g b = either (λ q. c g q) (λ q. s.clear e g q) (le_cases b)
 
       by : (x : Option Refusal) → o ≡ x → Chain (x else k)
-      by none e = h e (clears e)
-      by (some r) e = record { none_at = λ q. absurd (none_some (sym q)); some_at = λ r' q. of r' (some_inj q) (s.first r e) }
+      by None e = h e (clears e)
+      by (Some r) e = record { none_at = λ q. absurd (none_some (sym q)); some_at = λ r' q. of r' (some_inj q) (s.first r e) }
         where
           of : (r' : Refusal) → r ≡ r' → (f : Fault) × (stage_of f ≡ n) × At f × (refusal_of book f ≡ r) × ((g : Fault) → stage_of g ≡ n → Before (within g) (within f) → At g → ⊥)
               → (f : Fault) × First l book f × (refusal_of book f ≡ r')
@@ -105,7 +105,7 @@ module _ (l : Lent) (book : List ℕ) (is_bytes : All Byte book) where
   contents_stage : Stage 2 (contents_refusal w)
   contents_stage = stage 2 InContents contents (λ _. refl) of_contents (contents_refusal w) (contents_exact w)
 
-  bodies_stage : contents_refusal w ≡ none → Stage 3 (bodies_refusal w)
+  bodies_stage : contents_refusal w ≡ None → Stage 3 (bodies_refusal w)
   unfolding bodies_refusal
   bodies_stage e = stage 3 (ℕ × InBody) (λ p. body p.0 p.1) (λ _. refl) (λ P h. of_body P (λ i c. h (i, c))) (bodies_refusal w)
       (exact_first InBody body_order (AtBody w) (λ i c. refusal_of book (body i c)) (body_refusal w) (count w) (λ i h. body_exact w (contents_ok w e) i h))
@@ -118,7 +118,7 @@ module _ (l : Lent) (book : List ℕ) (is_bytes : All Byte book) where
   steps_stage = stage 5 ℕ unfit (λ _. refl) of_unfit (steps_refusal w) (steps_exact w)
 
   -- after the reading
-  module _ (unrefused : book_refusal book ≡ none) where
+  module _ (unrefused : book_refusal book ≡ None) where
     unstuck : (after w (step_count w)).status ≢ stuck
     unfolding after
     unstuck = (demand3 book is_bytes unrefused (λ o call. apply) (λ o call f args v c e. functions_fine f args v c e) (λ _. true) (steps w) (own_steps_lem book is_bytes unrefused) (step_count w)).never_stuck
@@ -127,7 +127,7 @@ module _ (l : Lent) (book : List ℕ) (is_bytes : All Byte book) where
     run_stage = stage 6 (ℕ × InRun) (λ p. in_run p.0 p.1) (λ _. refl) (λ P h. of_run P (λ k c. h (k, c))) _ (run_exact l w unstuck)
 
     -- after the run
-    module _ (ran_on : ended (left l book).status (first_step w + length (left l book).answers) ≡ none) where
+    module _ (ran_on : ended (left l book).status (first_step w + length (left l book).answers) ≡ None) where
       same : left l book ≡ after w (step_count w)
       same = run_same l w unstuck ran_on
 
@@ -160,23 +160,23 @@ module _ (l : Lent) (book : List ℕ) (is_bytes : All Byte book) where
   -- ## All of them
 
   flatten : (a b c d e : Option Refusal) (k : Unit {0} → Option Refusal) → ((a else λ _. b else λ _. c else λ _. d else λ _. e) else k) ≡ (a else λ _. b else λ _. c else λ _. d else λ _. e else k)
-  flatten (some r) b c d e k = refl
-  flatten none (some r) c d e k = refl
-  flatten none none (some r) d e k = refl
-  flatten none none none (some r) e k = refl
-  flatten none none none none e k = refl
+  flatten (Some r) b c d e k = refl
+  flatten None (Some r) c d e k = refl
+  flatten None None (Some r) d e k = refl
+  flatten None None None (Some r) e k = refl
+  flatten None None None None e k = refl
 
-  last : (o : Option Refusal) → (o else λ _. none) ≡ o
-  last none = refl
-  last (some r) = refl
+  last : (o : Option Refusal) → (o else λ _. None) ≡ o
+  last None = refl
+  last (Some r) = refl
 
   -- the run, 15 and 16
-  concluded : book_refusal book ≡ none → Clears 6 → Chain (end_refusal l (first_step w) (committed l book) (left l book))
+  concluded : book_refusal book ≡ None → Clears 6 → Chain (end_refusal l (first_step w) (committed l book) (left l book))
   unfolding end_refusal
   concluded u c6 =
       chain 6 _ _ c6 (run_stage u) (λ e6 c7.
       chain 7 _ _ c7 (tables_stage u e6) (λ e7 c8.
-      subst Chain (last _) (chain 8 _ (λ _. none) c8 (answer_stage u e6) (λ e8 c9. record { none_at = λ _ g. c9 g (below_9 g); some_at = λ r q. absurd (none_some q) }))))
+      subst Chain (last _) (chain 8 _ (λ _. None) c8 (answer_stage u e6) (λ e8 c9. record { none_at = λ _ g. c9 g (below_9 g); some_at = λ r q. absurd (none_some q) }))))
 
   whole : Chain (refusal l book)
   unfolding refusal book_refusal words_refusal
@@ -190,15 +190,15 @@ module _ (l : Lent) (book : List ℕ) (is_bytes : All Byte book) where
       chain 5 (steps_refusal w) _ c5 steps_stage (λ e5. concluded (rw (e1, e2, e3, e4, e5)))))))))
 
   -- what was refused
-  refused_is : (r : Refusal) → outcome l book ≡ refused r → refusal l book ≡ some r
+  refused_is : (r : Refusal) → outcome l book ≡ refused r → refusal l book ≡ Some r
   unfolding outcome
   refused_is r e = by (refusal l book) e
     where
-      by : (o : Option Refusal) → found o refused (λ _. accepted (answer (committed l book) (left l book))) ≡ refused r → o ≡ some r
-      by none q = let z : ◌≡◌ {A = ℕ} 0 1 = cc in absurd (omega arith)
-      by (some r') q = let z : r' ≡ r = cc in ap some z
+      by : (o : Option Refusal) → found o refused (λ _. accepted (answer (committed l book) (left l book))) ≡ refused r → o ≡ Some r
+      by None q = let z : ◌≡◌ {A = ℕ} 0 1 = cc in absurd (omega arith)
+      by (Some r') q = let z : r' ≡ r = cc in ap Some z
 
-  is_refused : (r : Refusal) → refusal l book ≡ some r → outcome l book ≡ refused r
+  is_refused : (r : Refusal) → refusal l book ≡ Some r → outcome l book ≡ refused r
   unfolding outcome
   is_refused r e = rw e
 
@@ -214,19 +214,19 @@ module _ (l : Lent) (book : List ℕ) (is_bytes : All Byte book) where
   exact : (r : Refusal) → (outcome l book ≡ refused r) ↔ ((f : Fault) × First l book f × (refusal_of book f ≡ r))
   exact r = ((λ e. whole.some_at r (refused_is r e)), λ p. is_refused r (by (refusal l book) refl p))
     where
-      by : (o : Option Refusal) → refusal l book ≡ o → (f : Fault) × First l book f × (refusal_of book f ≡ r) → refusal l book ≡ some r
-      by none e p = absurd (whole.none_at e p.0 p.1.fault)
-      by (some r') e p =
+      by : (o : Option Refusal) → refusal l book ≡ o → (f : Fault) × First l book f × (refusal_of book f ≡ r) → refusal l book ≡ Some r
+      by None e p = absurd (whole.none_at e p.0 p.1.fault)
+      by (Some r') e p =
           let q = whole.some_at r' e in
-          e ∙ ap some (sym q.2 ∙ ap (refusal_of book) (only_first q.0 p.0 q.1 p.1) ∙ p.2)
+          e ∙ ap Some (sym q.2 ∙ ap (refusal_of book) (only_first q.0 p.0 q.1 p.1) ∙ p.2)
 
   -- no fault, no refusal, and the log without end
-  faultless : ((f : Fault) → At f → ⊥) → refusal l book ≡ none
+  faultless : ((f : Fault) → At f → ⊥) → refusal l book ≡ None
   faultless h = by (refusal l book) refl
     where
-      by : (o : Option Refusal) → refusal l book ≡ o → refusal l book ≡ none
-      by none e = e
-      by (some r) e = let q = whole.some_at r e in absurd (h q.0 q.1.fault)
+      by : (o : Option Refusal) → refusal l book ≡ o → refusal l book ≡ None
+      by None e = e
+      by (Some r) e = let q = whole.some_at r e in absurd (h q.0 q.1.fault)
 
   accepts : ((f : Fault) → At f → ⊥) → outcome l book ≡ accepted (answer (final w) (after w (step_count w)))
   unfolding outcome refusal end_refusal
@@ -236,7 +236,7 @@ module _ (l : Lent) (book : List ℕ) (is_bytes : All Byte book) where
       let s = same u.0 u.1 in
       rw e (ap (λ (s : State). accepted (answer (committed_by w s) s)) s)
     where
-      unread : refusal l book ≡ none → (book_refusal book ≡ none) × (ended (left l book).status (first_step w + length (left l book).answers) ≡ none)
+      unread : refusal l book ≡ None → (book_refusal book ≡ None) × (ended (left l book).status (first_step w + length (left l book).answers) ≡ None)
       unread e =
           let a = else_none (lent_refusal l) _ e in
           let b = else_none (book_refusal book) _ a.1 in

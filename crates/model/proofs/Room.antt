@@ -4,11 +4,11 @@ use native.Mathlib.Omega.{arith}
 use mathlib.Core.Path.{◌≡◌, refl, sym, ap, ◌∙◌}
 use mathlib.Core.Logic.{◌⊎◌, inl, inr, ◌≢◌}
 use mathlib.Core.Bool.{Bool, true, false, ◌&&◌, not, false≢true}
-use mathlib.Core.Option.{Option, none, some}
+use Rattle.std.specs.Prelude.{Option, None, Some, slice_get}
 use mathlib.Core.List.{List, [], ◌∷◌, ◌++◌, append-nil, append_assoc}
 use borrow.Author.Tests.{leb-true, leb-false}
 use lib.Dec.{leb}
-use lib.ListN.{length, get_or, get_elem?, take, drop}
+use lib.ListN.{length, get_or, take, drop}
 use Rattle.model.specs.Basics.{iter, when, found, only, first}
 use Rattle.model.specs.Book.Syntax.{QueryEntry, WriteVal}
 use Rattle.model.specs.Machine.State.{State, Site, Record, Answer, Status, going, stuck, spent, full, is_going, reads, took, asks, Bindings, Env, stop, note, give, lose, with_counters, logged, change, reply, need, if_room, log_words}
@@ -110,14 +110,14 @@ module _ (S : Setting) where
   pub reply_goes : (a : Answer) (s : State) → Goes 1 s (reply a s) (reply a s)
   reply_goes a s g = same 1 s (reply a s) refl (rw g (omega arith)) (λ e. absurd (going≢full (sym g ∙ e)))
 
-  pub need_goes : {A : Type 0} (n : ℕ) (o : Option A) (s : State) (f g : A → State) → ((a : A) → o ≡ some a → Goes n s (f a) (g a)) → Goes n s (need o s f) (need o s g)
-  need_goes n none s f g h = halt n stuck s refl (λ e. absurd (stuck≢full e))
-  need_goes n (some a) s f g h = h a refl
+  pub need_goes : {A : Type 0} (n : ℕ) (o : Option A) (s : State) (f g : A → State) → ((a : A) → o ≡ Some a → Goes n s (f a) (g a)) → Goes n s (need o s f) (need o s g)
+  need_goes n None s f g h = halt n stuck s refl (λ e. absurd (stuck≢full e))
+  need_goes n (Some a) s f g h = h a refl
 
   pub found_goes : {A : Type 0} (n : ℕ) (o : Option A) (s : State) (f f' : A → State) (g g' : Unit {0} → State)
-      → ((a : A) → o ≡ some a → Goes n s (f a) (f' a)) → (o ≡ none → Goes n s (g tt) (g' tt)) → Goes n s (found o f g) (found o f' g')
-  found_goes n none s f f' g g' h k = k refl
-  found_goes n (some a) s f f' g g' h k = h a refl
+      → ((a : A) → o ≡ Some a → Goes n s (f a) (f' a)) → (o ≡ None → Goes n s (g tt) (g' tt)) → Goes n s (found o f g) (found o f' g')
+  found_goes n None s f f' g g' h k = k refl
+  found_goes n (Some a) s f f' g g' h k = h a refl
 
   pub when_goes : (b : Bool) (f g : State → State) (s : State) → (b ≡ true → Goes 0 s (f s) (g s)) → Goes 0 s (when b f s) (when b g s)
   when_goes true f g s h = h refl
@@ -175,7 +175,7 @@ module _ (S : Setting) where
 
   take_goes : (o : Site) (col : ℕ) (r : List ℕ) → Keeps (take_column o col r) (take_column o col r)
   unfolding take_column
-  take_goes o col r s = need_goes 0 (get_elem? r col) s _ _ (λ w _. stay (give o.lane w (note (took o r) s)))
+  take_goes o col r s = need_goes 0 (slice_get r col) s _ _ (λ w _. stay (give o.lane w (note (took o r) s)))
 
   pub default_goes : (o : Site) (e : QueryEntry) → Keeps (take_default o e) (take_default o e)
   unfolding take_default
@@ -237,8 +237,8 @@ module _ (S : Setting) where
 
   missed_goes : (f g : ℕ → State → State) → Turns f g → Keeps (missed f) (missed g)
   unfolding missed
-  missed_goes f g h s = iter_goes (λ i s'. when (is_live s' i && is_none (get_or s'.out i none)) (f i) s') (λ i s'. when (is_live s' i && is_none (get_or s'.out i none)) (g i) s') (λ i s' e. rw e) (λ i s' e. rw e)
-      (λ i s'. when_goes (is_live s' i && is_none (get_or s'.out i none)) (f i) (g i) s' (λ _. h i s')) (length s.live) s
+  missed_goes f g h s = iter_goes (λ i s'. when (is_live s' i && is_none (get_or s'.out i None)) (f i) s') (λ i s'. when (is_live s' i && is_none (get_or s'.out i None)) (g i) s') (λ i s' e. rw e) (λ i s' e. rw e)
+      (λ i s'. when_goes (is_live s' i && is_none (get_or s'.out i None)) (f i) (g i) s' (λ _. h i s')) (length s.live) s
 
   -- a pass, then the lanes that it missed
   pub pass_goes : (f g f' g' : ℕ → State → State) → Turns f g → Turns f' g' → Keeps (λ s. missed f' (lanes f s)) (λ s. missed g' (lanes g s))

@@ -2,11 +2,11 @@
 use Prim.Native.Nat.{ℕ, zero, suc, ◌<◌}
 use mathlib.Core.Path.{◌≡◌, refl, sym, ap, ◌∙◌, subst}
 use mathlib.Core.Bool.{Bool, true, false, true≢false}
-use mathlib.Core.Option.{Option, none, some}
+use Rattle.std.specs.Prelude.{Option, None, Some, slice_get}
 use mathlib.Core.List.{List, [], ◌∷◌}
 use native.Mathlib.Omega.{arith}
 use lib.Dec.{T}
-use lib.ListN.{length, get_elem?}
+use lib.ListN.{length}
 use Rattle.model.specs.Basics.{found, first_some, all, All}
 use Rattle.model.specs.Book.Syntax.{Instr, Rule}
 use Rattle.model.specs.Book.Words.{Refusal}
@@ -37,7 +37,7 @@ tells_all P f there back' xs = record { yes' = λ e. all→All P f there xs (sub
 
 -- a number at a place
 abbrev drawn : ℕ → Option ℕ → Option Refusal
-drawn place o = found o (λ n. some (record { number = n; place = place })) (λ _. none)
+drawn place o = found o (λ n. Some (record { number = n; place = place })) (λ _. None)
 
 -- four tests in a row, each with what it is to fail it
 module _ (At : InRule → Type 0) (place : ℕ) (C : InRule → Type 0) (fails : (c : InRule) → (C c → ⊥) → At c) (holds : (c : InRule) → At c → C c → ⊥) where
@@ -50,7 +50,7 @@ module _ (At : InRule → Type 0) (place : ℕ) (C : InRule → Type 0) (fails :
   no' : (c : InRule) (b : Bool) → b ≡ false → Tells b (C c) → C c → ⊥
   no' c b e t h = true≢false (sym (t.back h) ∙ e)
 
-  tests : (a b c d : Bool) → Tells a (C size) → Tells b (C unbound) → Tells c (C held_out) → Tells d (C column) → Is (refuse a 8 (refuse b 7 (refuse c 10 (refuse d 9 none))))
+  tests : (a b c d : Bool) → Tells a (C size) → Tells b (C unbound) → Tells c (C held_out) → Tells d (C column) → Is (refuse a 8 (refuse b 7 (refuse c 10 (refuse d 9 None))))
   tests false b c d ta tb tc td = record { clear = λ e. absurd (none_some (sym e)); first = λ r e. (size, fails size (no' size false refl ta), some_inj e, before) }
     where
       before : (x : InRule) → Before (rule_order x) (0 ∷ []) → At x → ⊥
@@ -90,14 +90,14 @@ module _ (At : InRule → Type 0) (place : ℕ) (C : InRule → Type 0) (fails :
 -- ## A rule, and the rules
 
 -- a search through an index, and then what is made of the find
-first_map : {A B : Type 0} (g : A → B) (f : ℕ → Option A) (n : ℕ) → found (first_some f n) (λ a. some (g a)) (λ _. none) ≡ first_some (λ i. found (f i) (λ a. some (g a)) (λ _. none)) n
+first_map : {A B : Type 0} (g : A → B) (f : ℕ → Option A) (n : ℕ) → found (first_some f n) (λ a. Some (g a)) (λ _. None) ≡ first_some (λ i. found (f i) (λ a. Some (g a)) (λ _. None)) n
 first_map g f zero = refl
 first_map {A} {B} g f (suc n) = by (first_some f n) (first_map g f n)
   where
-    by : (o : Option A) → found o (λ a. some (g a)) (λ _. none) ≡ first_some (λ i. found (f i) (λ a. some (g a)) (λ _. none)) n
-        → found (found o some (λ _. f n)) (λ a. some (g a)) (λ _. none) ≡ found (first_some (λ i. found (f i) (λ a. some (g a)) (λ _. none)) n) some (λ _. found (f n) (λ a. some (g a)) (λ _. none))
-    by none e = rw (← e)
-    by (some a) e = rw (← e)
+    by : (o : Option A) → found o (λ a. Some (g a)) (λ _. None) ≡ first_some (λ i. found (f i) (λ a. Some (g a)) (λ _. None)) n
+        → found (found o Some (λ _. f n)) (λ a. Some (g a)) (λ _. None) ≡ found (first_some (λ i. found (f i) (λ a. Some (g a)) (λ _. None)) n) Some (λ _. found (f n) (λ a. Some (g a)) (λ _. None))
+    by None e = rw (← e)
+    by (Some a) e = rw (← e)
 
 module _ (w : List ℕ) where
   -- what must hold of an instruction
@@ -113,13 +113,13 @@ module _ (w : List ℕ) where
 
     -- instruction j of the rule at fault
     abbrev Fails : ℕ → InRule → Type 0
-    Fails j c = (ins : Instr) × (get_elem? R.instrs j ≡ some ins) × (Must R j ins c → ⊥)
+    Fails j c = (ins : Instr) × (slice_get R.instrs j ≡ Some ins) × (Must R j ins c → ⊥)
 
     abbrev says_at : ℕ → InRule → Refusal
     says_at j c = record { number = number_of (rule r j c); place = instr_place w (rule_first w r) j }
 
     abbrev draws : ℕ → Option Refusal
-    draws j = found (check_at (tables w) arity R j) (λ e. some (record { number = e.0; place = instr_place w (rule_first w r) e.1 })) (λ _. none)
+    draws j = found (check_at (tables w) arity R j) (λ e. Some (record { number = e.0; place = instr_place w (rule_first w r) e.1 })) (λ _. None)
 
     same_number : (j : ℕ) (c : InRule) → number_of (rule 0 0 c) ≡ number_of (rule r j c)
     same_number j size = refl
@@ -127,12 +127,12 @@ module _ (w : List ℕ) where
     same_number j held_out = refl
     same_number j column = refl
 
-    draws_is : (j : ℕ) (ins : Instr) → get_elem? R.instrs j ≡ some ins → drawn (instr_place w (rule_first w r) j) (check_instr (tables w) arity (bound? R j) ins) ≡ draws j
+    draws_is : (j : ℕ) (ins : Instr) → slice_get R.instrs j ≡ Some ins → drawn (instr_place w (rule_first w r) j) (check_instr (tables w) arity (bound? R j) ins) ≡ draws j
     draws_is j ins e = rw e (by (check_instr (tables w) arity (bound? R j) ins))
       where
-        by : (o : Option ℕ) → drawn (instr_place w (rule_first w r) j) o ≡ found {B = Option Refusal} (placed j o) (λ e. some (record { number = e.0; place = instr_place w (rule_first w r) e.1 })) (λ _. none)
-        by none = refl
-        by (some n) = refl
+        by : (o : Option ℕ) → drawn (instr_place w (rule_first w r) j) o ≡ found {B = Option Refusal} (placed j o) (λ e. Some (record { number = e.0; place = instr_place w (rule_first w r) e.1 })) (λ _. None)
+        by None = refl
+        by (Some n) = refl
 
     instr_exact : (j : ℕ) → j < length R.instrs → Exact InRule rule_order (Fails j) (says_at j) (draws j)
     unfolding check_instr

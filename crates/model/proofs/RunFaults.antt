@@ -3,7 +3,7 @@ use Prim.Native.Nat.{ℕ, suc, ◌+◌, ◌≤◌, ◌<◌}
 use mathlib.Core.Path.{◌≡◌, refl, sym, ap, ◌∙◌, subst}
 use mathlib.Core.Logic.{◌⊎◌, inl, inr, ◌≢◌}
 use mathlib.Core.Bool.{true, false, false≢true}
-use mathlib.Core.Option.{none}
+use Rattle.std.specs.Prelude.{None}
 use mathlib.Core.List.{List, [], ◌∷◌}
 use native.Mathlib.Omega.{arith}
 use lib.ListN.{length}
@@ -144,9 +144,9 @@ module _ (l : Lent) (w : List ℕ) (unstuck : (after w (step_count w)).status �
       of (inr f) = full_exact (ran w l) f.0 f.1 f.2 f.3 f.4 f.5 f.6
 
   -- with neither it is the run on a log without end
-  pub run_same : ended (ran w l).status (first_step w + length (ran w l).answers) ≡ none → ran w l ≡ after w n
+  pub run_same : ended (ran w l).status (first_step w + length (ran w l).answers) ≡ None → ran w l ≡ after w n
   run_same e = of result
     where
       of : Result (ran w l) n → ran w l ≡ after w n
       of (inl p) = p.0
-      of (inr f) = absurd (none_some (sym (subst (λ (o : Status). ended o (first_step w + length (ran w l).answers) ≡ none) f.1 e)))
+      of (inr f) = absurd (none_some (sym (subst (λ (o : Status). ended o (first_step w + length (ran w l).answers) ≡ None) f.1 e)))

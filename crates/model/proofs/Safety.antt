@@ -1,10 +1,8 @@
 -- Demand 3: a row that is built, the lookups, each instruction, and so a whole run keep the invariant of `specs/Safety`.
 use Prim.Native.Nat.{zero, ◌≤◌}
-use Rattle.std.specs.Prelude.{ℕ, suc, ◌+◌, ◌<◌, ◌≡◌, refl, Bool, true, false, List, [], ◌∷◌, ◌++◌, T, eqb, length, get_or, ◌&&◌, ◌⊎◌}
+use Rattle.std.specs.Prelude.{ℕ, suc, ◌+◌, ◌<◌, ◌≡◌, refl, Bool, true, false, List, [], ◌∷◌, ◌++◌, T, eqb, length, get_or, ◌&&◌, ◌⊎◌, Option, None, Some, slice_get}
 use Rattle.std.proofs.Common.{add-zero, add-suc, suc-add, arith, ap, subst, zero-add, T_not}
-use Rattle.std.proofs.Math.Option.{Option, none, some}
 use Rattle.std.proofs.Math.Dec.{eqb_refl}
-use Rattle.std.proofs.Math.ListN.{get_elem?}
 use Rattle.model.specs.Basics.{found, All, when}
 use Rattle.model.specs.Book.Syntax.{Clean, Counter, no_counter, QueryEntry, WriteVal, Entry, IncCounter, CurrentVal, width, table_at, Instr, LookupOrInsertDefault, LookupWithDefault, Lookup, LookupWithFallback, Insert, InsertIfEq, Remove, External, ExternalWithFallback, AssertEq, AssertNe, AssertAnyNe, ReadCounter, dst_of, Rule, Step, batch, prediction, rule_at}
 use Rattle.model.specs.Machine.State.{Bindings, State, reads, took, asks, is_going, Env, note, lose, change, Site, mask, predicted, reply, frame}
@@ -44,7 +42,7 @@ module _ (K : ℕ → Type 0) (b : Bindings) (l : List Bool) (rd : Readable K b 
   write_ok (IncCounter x) n (built row cs) k c cu h = hand_ok key row cs n x (draw (get_or cs x no_counter)) (λ p e. draw_ok (get_or cs x no_counter) p (All-get_or CounterOk cs x no_counter h.2 (omega arith)) e) h
   write_ok (CurrentVal x) n (built row cs) k c cu h =
       let r = cell row x h.1 (omega (arith, cu.0, h.0)) in
-      push_ok key row cs n r.0 (get_elem? row x) r.1 r.2 h
+      push_ok key row cs n r.0 (slice_get row x) r.1 r.2 h
 
   pub build_ok : (vs : List WriteVal) (n : ℕ) (r : Built) → All (IsKnown K) (entries_of vs) → All CleanConst (entries_of vs) → All Below (currents_of n vs)
       → BuiltOk key n r → BuiltOk key (n + length vs) (build b i vs r)
@@ -83,7 +81,7 @@ module _ (E : Env) (K : ℕ → Type 0) (k j : ℕ) where
 
 -- ## The instructions
 
-module _ (E : Env) (tok : All TableOk E.tables) (fn : (o : Site) (c f : ℕ) (args : List ℕ) (w : ℕ) → All Clean args → E.answer o c f args ≡ some w → Clean w) (K : ℕ → Type 0) (k j : ℕ) where
+module _ (E : Env) (tok : All TableOk E.tables) (fn : (o : Site) (c f : ℕ) (args : List ℕ) (w : ℕ) → All Clean args → E.answer o c f args ≡ Some w → Clean w) (K : ℕ → Type 0) (k j : ℕ) where
   module _ (s : State) (v : Inv E K k j 0 s) where
     abbrev Good : Instr → Type 0
     Good = bodies.Good E tok fn K k j s v
@@ -152,29 +150,29 @@ module _ (E : Env) where
   abbrev Between : ℕ → State → Type 0
   Between = between.Between E
 
-  module _ (tok : All TableOk E.tables) (fn : (o : Site) (c f : ℕ) (args : List ℕ) (w : ℕ) → All Clean args → E.answer o c f args ≡ some w → Clean w) where
+  module _ (tok : All TableOk E.tables) (fn : (o : Site) (c f : ℕ) (args : List ℕ) (w : ℕ) → All Clean args → E.answer o c f args ≡ Some w → Clean w) where
     -- ## An instruction
 
     instruction_ok : (K : ℕ → Type 0) (k j : ℕ) (ins : Instr) (s : State) → Inv E K k j 0 s → Sound E.tables E.arity K ins → All CleanConst (reads_of ins)
-        → Inv E (λ x. K x ⊎ (dst_of ins ≡ some x)) k (suc j) 0 (instruction E k j ins s)
+        → Inv E (λ x. K x ⊎ (dst_of ins ≡ Some x)) k (suc j) 0 (instruction E k j ins s)
     unfolding instruction finish
     instruction_ok K k j ins s v c cn =
-        when_cases (Inv E (λ x. K x ⊎ (dst_of ins ≡ some x)) k (suc j) 0) (is_going s.status && any_live s.live) (λ s'. finish k (dst_of ins) (body E k j ins (clear s'))) s
+        when_cases (Inv E (λ x. K x ⊎ (dst_of ins ≡ Some x)) k (suc j) 0) (is_going s.status && any_live s.live) (λ s'. finish k (dst_of ins) (body E k j ins (clear s'))) s
         (λ t. done (body_ok E tok fn K k j (clear s) (clear_inv E K k j 0 s v) ins c cn))
         (λ t. advance E K k j 0 s v _ (λ g x i kx l. absurd (T_not (is_going s.status && any_live s.live) t (T_and (is_going s.status) (any_live s.live) g (any_live_lem s.live i l)))))
       where
         s₁ : State
         s₁ = body E k j ins (clear s)
 
-        done : (q : ℕ) × Lane E K k j q (clear s) s₁ × Filled ins s₁ → Inv E (λ x. K x ⊎ (dst_of ins ≡ some x)) k (suc j) 0 (finish k (dst_of ins) s₁)
+        done : (q : ℕ) × Lane E K k j q (clear s) s₁ × Filled ins s₁ → Inv E (λ x. K x ⊎ (dst_of ins ≡ Some x)) k (suc j) 0 (finish k (dst_of ins) s₁)
         done p =
-            when_cases (Inv E (λ x. K x ⊎ (dst_of ins ≡ some x)) k (suc j) 0) (is_going s₁.status) (λ s'. note (mask k s'.live) (bind_out (dst_of ins) s')) s₁
+            when_cases (Inv E (λ x. K x ⊎ (dst_of ins ≡ Some x)) k (suc j) 0) (is_going s₁.status) (λ s'. note (mask k s'.live) (bind_out (dst_of ins) s')) s₁
             (λ g. masked (dst_of ins) (bound_ok E K k j p.0 s₁ p.1.inv (dst_of ins) g p.2))
             (λ t. advance E K k j p.0 s₁ p.1.inv _ (λ g. absurd (T_not (is_going s₁.status) t g)))
           where
-            masked : (o : Option ℕ) → Inv E (λ x. K x ⊎ (o ≡ some x)) k (suc j) 0 (bind_out o s₁) → Inv E (λ x. K x ⊎ (o ≡ some x)) k (suc j) 0 (note (mask k s₁.live) (bind_out o s₁))
-            masked none v' = note_inv E _ k (suc j) 0 (bind_out none s₁) v' (mask k s₁.live) tt tt
-            masked (some d) v' = note_inv E _ k (suc j) 0 (bind_out (some d) s₁) v' (mask k s₁.live) tt tt
+            masked : (o : Option ℕ) → Inv E (λ x. K x ⊎ (o ≡ Some x)) k (suc j) 0 (bind_out o s₁) → Inv E (λ x. K x ⊎ (o ≡ Some x)) k (suc j) 0 (note (mask k s₁.live) (bind_out o s₁))
+            masked None v' = note_inv E _ k (suc j) 0 (bind_out None s₁) v' (mask k s₁.live) tt tt
+            masked (Some d) v' = note_inv E _ k (suc j) 0 (bind_out (Some d) s₁) v' (mask k s₁.live) tt tt
 
     -- none of its lanes comes back
     instruction_fewer : (K : ℕ → Type 0) (k j : ℕ) (ins : Instr) (s : State) → Inv E K k j 0 s → Sound E.tables E.arity K ins → All CleanConst (reads_of ins) → Within (instruction E k j ins s).live s.live
@@ -190,8 +188,8 @@ module _ (E : Env) where
         fewer = (body_ok E tok fn K k j (clear s) (clear_inv E K k j 0 s v) ins c cn).1.fewer
 
         bound : (o : Option ℕ) → Within (bind_out o s₁).live s.live
-        bound none = fewer
-        bound (some d) = fewer
+        bound None = fewer
+        bound (Some d) = fewer
 
     instructions_ok : (k : ℕ) (r : Rule) → RuleOk E r → (n : ℕ) (s : State) → Inv E (Known r 0) k 0 0 s → Inv E (Known r n) k n 0 (instructions E k r n s)
     unfolding instructions
@@ -199,7 +197,7 @@ module _ (E : Env) where
     instructions_ok k r ok (suc n) s v =
         let s₁ : State = instructions E k r n s in
         let v₁ : Inv E (Known r n) k n 0 s₁ = instructions_ok k r ok n s v in
-        found_ind (Inv E (Known r (suc n)) k (suc n) 0) (get_elem? r.instrs n) (λ ins. instruction E k n ins s₁) (λ _. s₁)
+        found_ind (Inv E (Known r (suc n)) k (suc n) 0) (slice_get r.instrs n) (λ ins. instruction E k n ins s₁) (λ _. s₁)
         (λ ins e. more E tok fn _ (Known r (suc n)) k (suc n) 0 (instruction E k n ins s₁) (grown E tok fn r n ins e) (instruction_ok (Known r n) k n ins s₁ v₁ (ok.conditions n ins e) (ok.consts n ins e)))
         (λ e. advance E (Known r n) k n 0 s₁ v₁ (Known r (suc n)) (λ g x i kx l. v₁.readable g x i (over_end E tok fn r n e x kx) l))
 
@@ -215,7 +213,7 @@ module _ (E : Env) where
         s₁ = instructions E k r n s
 
         next : Within (instructions E k r (suc n) s).live s₁.live
-        next = found_ind (λ z. Within z.live s₁.live) (get_elem? r.instrs n) (λ ins. instruction E k n ins s₁) (λ _. s₁)
+        next = found_ind (λ z. Within z.live s₁.live) (slice_get r.instrs n) (λ ins. instruction E k n ins s₁) (λ _. s₁)
             (λ ins e. instruction_fewer (Known r n) k n ins s₁ (instructions_ok k r ok n s v) (ok.conditions n ins e) (ok.consts n ins e)) (λ _ i t. t)
 
     -- ## A prediction
@@ -229,15 +227,15 @@ module _ (E : Env) where
       unfolding predict
       predict_step vs s v len len' cl gv =
           let g = given_ok E tok fn vs (length key) gv in
-          let ok₀ : BuiltOk key (length key + length vs) (build (λ _. none) 0 vs (built key s.counters))
-          = build_ok (λ _. ⊥) (λ _. none) (true ∷ []) (λ x i kx l. absurd kx) 0 tt key vs (length key) (built key s.counters) g.0 g.1 g.2 (refl, cl, v.counted, [], sym (append-nil key)) in
+          let ok₀ : BuiltOk key (length key + length vs) (build (λ _. None) 0 vs (built key s.counters))
+          = build_ok (λ _. ⊥) (λ _. None) (true ∷ []) (λ x i kx l. absurd kx) 0 tt key vs (length key) (built key s.counters) g.0 g.1 g.2 (refl, cl, v.counted, [], sym (append-nil key)) in
           let fits : T (eqb (length key) (table_of E t).keys && eqb (length key + length vs) (width (table_of E t)))
           = T_and (eqb (length key) (table_of E t).keys) _ (rw len (eqb_refl (table_of E t).keys)) (rw len' (eqb_refl (width (table_of E t)))) in
           need_some (Between (suc k)) _ s _ key (only_T (eqb (length key) (table_of E t).keys && eqb (length key + length vs) (width (table_of E t))) _ fits)
           (found_ind (Between (suc k)) (find (table_of E t).keys (table_of E t).rows key) _ _
           (λ r e. leave E (λ _. ⊥) k 0 0 (note (took o r) s) (took_inv E (λ _. ⊥) k 0 0 s v o r (find_All (All Clean) (table_of E t).keys (table_of E t).rows key (table_ok E (λ _. ⊥) k 0 tok t).clean e)))
-          (λ e. predict_ok E (λ _. ⊥) k 0 0 s v (Between (suc k)) (λ _. none) t key vs (λ new r s'. reply (predicted new r) (note (took o r) (note (asks o t key r) (when new change s'))))
-          (subst (λ n. BuiltOk key n (build (λ _. none) 0 vs (built key s.counters))) len' ok₀) len len'
+          (λ e. predict_ok E (λ _. ⊥) k 0 0 s v (Between (suc k)) (λ _. None) t key vs (λ new r s'. reply (predicted new r) (note (took o r) (note (asks o t key r) (when new change s'))))
+          (subst (λ n. BuiltOk key n (build (λ _. None) 0 vs (built key s.counters))) len' ok₀) len len'
           (λ new r s' v' m c lr one. answered E tok fn k t key new r s' v' c one)
           (λ s' v' m n. leave E (λ _. ⊥) k 0 1 s' v')))
 
@@ -252,7 +250,7 @@ module _ (E : Env) where
         let s₁ : State = instructions E k R m s₀ in
         end_ok E tok fn (suc k) s₁ (leave E (Known R m) k m 0 s₁ (instructions_ok k R (rule_ok E tok fn rok r) m s₀ (begin_ok E tok fn k R n columns s h.count h.sized h.clean v)))
     step_ok rok k (prediction t key vs) s h v =
-        predict_step k t key vs (frame (λ _. none) [] [] s) (enter E (λ _. ⊥) k s (λ _. none) [] v (λ x i kx l. absurd kx)) h.keys h.vals h.clean h.given
+        predict_step k t key vs (frame (λ _. None) [] [] s) (enter E (λ _. ⊥) k s (λ _. None) [] v (λ x i kx l. absurd kx)) h.keys h.vals h.clean h.given
 
 -- ## A run
 
@@ -262,8 +260,8 @@ run_ok E cs steps ac ok zero = record { unstuck = going≢stuck; counted = ac.co
 run_ok E cs steps ac ok (suc n) =
     let s : State = run E cs steps n in
     let v : Between E n s = run_ok E cs steps ac ok n in
-    when_cases (Between E (suc n)) (is_going s.status) (λ s'. found (get_elem? steps n) (λ st. step E n st s') (λ _. s')) s
-    (λ g. found_ind (Between E (suc n)) (get_elem? steps n) (λ st. step E n st s) (λ _. s)
+    when_cases (Between E (suc n)) (is_going s.status) (λ s'. found (slice_get steps n) (λ st. step E n st s') (λ _. s')) s
+    (λ g. found_ind (Between E (suc n)) (slice_get steps n) (λ st. step E n st s) (λ _. s)
     (λ st e. step_ok E ac.tables ac.functions ac.rules n st s (All-at (StepOk E.tables E.rules) steps n ok e) v)
     (λ e. later E n s v))
     (λ t. later E n s v)

@@ -5,11 +5,11 @@ use native.Mathlib.Omega.{arith}
 use mathlib.Core.Path.{◌≡◌, refl, sym, ap, ◌∙◌, subst}
 use mathlib.Core.Logic.{◌≢◌}
 use mathlib.Core.Bool.{Bool, true, false, ◌&&◌}
-use mathlib.Core.Option.{Option, none, some}
+use Rattle.std.specs.Prelude.{Option, None, Some, slice_get}
 use mathlib.Core.List.{List, [], ◌∷◌, ◌++◌}
 use borrow.Author.Tests.{ltb-false}
 use lib.Dec.{T, T_not, ltb}
-use lib.ListN.{length, get_or, get_elem?, length-replicate}
+use lib.ListN.{length, get_or, length-replicate}
 use Rattle.model.specs.Basics.{only, first}
 use Rattle.model.specs.Book.Syntax.{Counter, no_counter, next_of, limit, QueryEntry, WriteVal, Entry, IncCounter, CurrentVal, Instr, LookupOrInsertDefault, LookupWithDefault, Lookup, LookupWithFallback, Insert, InsertIfEq, Remove, External, ExternalWithFallback, AssertEq, AssertNe, AssertAnyNe, ReadCounter, dst_of, Rule, Step, batch, prediction, rule_at}
 use Rattle.model.specs.Machine.State.{State, reads, Status, going, stuck, spent, is_going, Bindings, Env, frame}
@@ -39,16 +39,16 @@ stuck_built b i [] e = let z : ◌≡◌ {A = ℕ} 0 1 = cc in omega arith
 stuck_built b i (v ∷ vs) e = stuck_built b i vs e
 
 push_unspent : (row : List ℕ) (cs : List Counter) (o : Option ℕ) → push row cs o ≢ is_spent
-push_unspent row cs none e = let z : ◌≡◌ {A = ℕ} 0 1 = cc in omega arith
-push_unspent row cs (some w) e = built≢spent (row ++ (w ∷ [])) cs e
+push_unspent row cs None e = let z : ◌≡◌ {A = ℕ} 0 1 = cc in omega arith
+push_unspent row cs (Some w) e = built≢spent (row ++ (w ∷ [])) cs e
 
 -- a write value that ends spent is a counter whose next would pass the limit
 write_spent : (b : Bindings) (i : ℕ) (v : WriteVal) (row : List ℕ) (cs : List Counter) → write b i v (built row cs) ≡ is_spent → (c : ℕ) × (v ≡ IncCounter c) × (limit < suc (next_of (get_or cs c no_counter)))
 write_spent b i (Entry e) row cs q = absurd (push_unspent row cs (value_of b i e) q)
-write_spent b i (CurrentVal x) row cs q = absurd (push_unspent row cs (get_elem? row x) q)
+write_spent b i (CurrentVal x) row cs q = absurd (push_unspent row cs (slice_get row x) q)
 write_spent b i (IncCounter c) row cs q = (c, refl, go (ltb (get_or cs c no_counter) limit) refl q)
   where
-    go : (d : Bool) → ltb (get_or cs c no_counter) limit ≡ d → hand_out row cs c (only d (some (get_or cs c no_counter, suc (get_or cs c no_counter)))) ≡ is_spent → limit < suc (next_of (get_or cs c no_counter))
+    go : (d : Bool) → ltb (get_or cs c no_counter) limit ≡ d → hand_out row cs c (only d (Some (get_or cs c no_counter, suc (get_or cs c no_counter)))) ≡ is_spent → limit < suc (next_of (get_or cs c no_counter))
     go true e z = absurd (built≢spent _ _ z)
     go false e z = omega (arith, ltb-false (get_or cs c no_counter) limit e)
 
@@ -85,9 +85,9 @@ module _ (E : Env) (k j : ℕ) where
     key : List ℕ
     is : ins ≡ LookupOrInsertDefault table args vals col dst
     live : get_or z.live lane false ≡ true
-    read : values_of (hold dst z.bindings) lane args ≡ some key
-    last : first z.trace ≡ some (reads (here k j lane) key)
-    missing : find (table_of E table).keys (table_of E table).rows key ≡ none
+    read : values_of (hold dst z.bindings) lane args ≡ Some key
+    last : first z.trace ≡ Some (reads (here k j lane) key)
+    missing : find (table_of E table).keys (table_of E table).rows key ≡ None
     new : predicted_rows (table_of E table).keys table key z.log ≡ []
     overdraws : Overdraws (hold dst z.bindings) lane key vals z.counters
 
@@ -102,7 +102,7 @@ module _ (E : Env) (k j : ℕ) where
         let p = missed_stops k j f (Served E k j dst t args) (serve_turn E k j dst t args vs col) s₁ g₁ (spent_stops q) in
         let a = p.1 in
         let c = serve_stops E k j dst t args vs col p.0 a.start (missed_goes a.start p.0 a.test) (turn_unstuck a (spent_unstuck q)) p.2 in
-        let live = (and_T (is_going a.start.status) (get_or a.start.live p.0 false) (and_T (is_live a.start p.0) (is_none (get_or a.start.out p.0 none)) a.test).0).1 in
+        let live = (and_T (is_going a.start.status) (get_or a.start.live p.0 false) (and_T (is_live a.start p.0) (is_none (get_or a.start.out p.0 None)) a.test).0).1 in
         either
         (λ d. subst (Spender ins) (sym (a.last p.2 ∙ d.1)) (record {
           lane = p.0;
@@ -152,7 +152,7 @@ module _ (E : Env) (k j : ℕ) where
 module _ (E : Env) (k : ℕ) (r : Rule) (s₀ : State) (g : Going s₀) where
   -- the instruction in which a batch stops, and what its lanes' part left
   abbrev StopsIn : State → Type 0
-  StopsIn z = (j : ℕ) × (ins : Instr) × (get_elem? r.instrs j ≡ some ins) × Going (instructions E k r j s₀) × (z ≡ body E k j ins (clear (instructions E k r j s₀)))
+  StopsIn z = (j : ℕ) × (ins : Instr) × (slice_get r.instrs j ≡ Some ins) × Going (instructions E k r j s₀) × (z ≡ body E k j ins (clear (instructions E k r j s₀)))
 
   stops_in : (m : ℕ) → (Going (instructions E k r m s₀) → ⊥) → StopsIn (instructions E k r m s₀)
   unfolding instructions instruction finish
@@ -170,11 +170,11 @@ module _ (E : Env) (k : ℕ) (r : Rule) (s₀ : State) (g : Going s₀) where
           z₁ = body E k m ins (clear s)
 
           bound : (d : Option ℕ) → Going z₁ → Going (bind_out d z₁)
-          bound none t = t
-          bound (some x) t = t
+          bound None t = t
+          bound (Some x) t = t
 
       here : Going s → StopsIn (instructions E k r (suc m) s₀)
-      here g' = found_ind (λ z. (Going z → ⊥) → StopsIn z) (get_elem? r.instrs m) (λ ins. instruction E k m ins s) (λ _. s) (λ ins e n. (m, ins, e, g', cut ins g' n)) (λ _ n. absurd (n g')) n
+      here g' = found_ind (λ z. (Going z → ⊥) → StopsIn z) (slice_get r.instrs m) (λ ins. instruction E k m ins s) (λ _. s) (λ ins e n. (m, ins, e, g', cut ins g' n)) (λ _ n. absurd (n g')) n
 
       before : (Going s → ⊥) → StopsIn s → StopsIn (instructions E k r (suc m) s₀)
       before ng p = subst StopsIn (sym (turn_idle E k r m s (not_going s.status ng))) p
@@ -202,22 +202,22 @@ module _ (E : Env) where
       cut q =
           let p = stops_in E k R s₀ (going_T g) (length R.instrs) (spent_stops q) in
           let z : State = instructions E k R p.0 s₀ in
-          let c = body_spends E k p.0 (clear z) p.3 (length-replicate (length z.live) none) p.1 (sym (ap (λ y. y.status) p.4) ∙ q) in
+          let c = body_spends E k p.0 (clear z) p.3 (length-replicate (length z.live) None) p.1 (sym (ap (λ y. y.status) p.4) ∙ q) in
           subst (λ y. Spends E.tables E.rules k y (batch r n columns)) (sym p.4)
-          (by_lane p.0 c.lane c.table c.args c.vals c.col c.dst c.key (p.2 ∙ ap some c.is) c.live c.read c.last c.missing c.new c.overdraws)
+          (by_lane p.0 c.lane c.table c.args c.vals c.col c.dst c.key (p.2 ∙ ap Some c.is) c.live c.read c.last c.missing c.new c.overdraws)
   step_spends k (prediction t key vs) s g q =
-      let s₀ : State = frame (λ _. none) [] [] s in
+      let s₀ : State = frame (λ _. None) [] [] s in
       let z : State = predict E (here k 0 0) t key vs s₀ in
       let no : (Going z → ⊥) = spent_stops q in
       either
       (λ p. absurd (no (subst Going (sym p.2) (going_T g))))
-      (λ p. either (λ r. absurd (no (either (λ y. subst Going (sym y.1) (going_T g)) (λ y. subst Going (sym y.3) (going_T g)) r.1))) (λ r. either (λ d. subst (λ y. Spends E.tables E.rules k y (prediction t key vs)) (sym d.1) (by_prediction p.0 (first_none _ r.0) (overdrawn (λ _. none) 0 vs key s.counters d.0))) (λ d. absurd (full≢spent (sym (ap (λ y. y.status) d.3) ∙ q))) r.1) p.1)
+      (λ p. either (λ r. absurd (no (either (λ y. subst Going (sym y.1) (going_T g)) (λ y. subst Going (sym y.3) (going_T g)) r.1))) (λ r. either (λ d. subst (λ y. Spends E.tables E.rules k y (prediction t key vs)) (sym d.1) (by_prediction p.0 (first_none _ r.0) (overdrawn (λ _. None) 0 vs key s.counters d.0))) (λ d. absurd (full≢spent (sym (ap (λ y. y.status) d.3) ∙ q))) r.1) p.1)
       (predict_went (here k 0 0) E s₀ t key vs (spent_unstuck q))
 
 pub spent_exact : SpentExact
 spent_exact E counters steps zero q = let z : ◌≡◌ {A = ℕ} 0 1 = cc (ap (λ s. s.status) (begun E counters steps)) in absurd (omega arith)
 spent_exact E counters steps (suc k) q =
-    next_ind E counters steps (λ s. s.status ≡ spent → (st : Step) × (get_elem? steps (length s.answers) ≡ some st) × Spends E.tables E.rules (length s.answers) s st) k (spent_exact E counters steps k)
+    next_ind E counters steps (λ s. s.status ≡ spent → (st : Step) × (slice_get steps (length s.answers) ≡ Some st) × Spends E.tables E.rules (length s.answers) s st) k (spent_exact E counters steps k)
     (λ st g e q. let n = unanswered_step E counters steps k (at_below steps k e) g (ap is_going q) in
     let is : run E counters steps (suc k) ≡ step E k st (run E counters steps k) = next E counters steps k st g e in
     (st, rw n e, rw n (subst (λ s. Spends E.tables E.rules k s st) (sym is) (step_spends E k st (run E counters steps k) g (sym (ap (λ s. s.status) is) ∙ q))))) q

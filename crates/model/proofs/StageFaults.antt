@@ -3,7 +3,7 @@ use Prim.Native.Nat.{ℕ, ◌+◌, ◌<◌}
 use mathlib.Core.Path.{◌≡◌, sym, ◌∙◌}
 use mathlib.Core.Logic.{◌⊎◌, inl, inr}
 use mathlib.Core.Bool.{Bool, true, false, not, true≢false}
-use mathlib.Core.Option.{none, some}
+use Rattle.std.specs.Prelude.{None, Some}
 use mathlib.Core.List.{List, [], ◌∷◌}
 use native.Mathlib.Omega.{arith}
 use lib.Dec.{eqb}
@@ -22,16 +22,16 @@ use Rattle.model.proofs.Exact.{Exact, exact_unless}
 
 -- the least number that a test finds
 pub exact_least : (p : ℕ → Bool) (n : ℕ) (At : ℕ → Type 0) (says : ℕ → Refusal) → ((k : ℕ) → p k ≡ true → At k) → ((k : ℕ) → At k → p k ≡ false → ⊥)
-    → Exact ℕ (λ k. k ∷ []) (λ k. (k < n) × At k) says (found (least p n) (λ k. some (says k)) (λ _. none))
+    → Exact ℕ (λ k. k ∷ []) (λ k. (k < n) × At k) says (found (least p n) (λ k. Some (says k)) (λ _. None))
 exact_least p n At says yes' no' = record {
-  clear = λ e k a. no' k a.1 (least_none p n (seq_none (least p n) says (λ _. none) e).0 k a.0);
-  first = λ r e. of r (seq_some (least p n) says (λ _. none) r e);
+  clear = λ e k a. no' k a.1 (least_none p n (seq_none (least p n) says (λ _. None) e).0 k a.0);
+  first = λ r e. of r (seq_some (least p n) says (λ _. None) r e);
 }
   where
     at : (k : ℕ) → Least p n k → (r : Refusal) → says k ≡ r → (k : ℕ) × ((k < n) × At k) × (says k ≡ r) × ((j : ℕ) → Before (j ∷ []) (k ∷ []) → (j < n) × At j → ⊥)
     at k t r e = (k, (t.below, yes' k t.here), e, λ j b a. either (λ l. no' j a.1 (t.before j l)) (λ l. l.1) b)
 
-    of : (r : Refusal) → ((k : ℕ) × (least p n ≡ some k) × (says k ≡ r)) ⊎ ((least p n ≡ none) × (none ≡ some r)) → (k : ℕ) × ((k < n) × At k) × (says k ≡ r) × ((j : ℕ) → Before (j ∷ []) (k ∷ []) → (j < n) × At j → ⊥)
+    of : (r : Refusal) → ((k : ℕ) × (least p n ≡ Some k) × (says k ≡ r)) ⊎ ((least p n ≡ None) × (None ≡ Some r)) → (k : ℕ) × ((k < n) × At k) × (says k ≡ r) × ((j : ℕ) → Before (j ∷ []) (k ∷ []) → (j < n) × At j → ⊥)
     of r (inl q) = at q.0 (least_some p n q.0 q.1) r q.2
     of r (inr q) = absurd (none_some q.1)
 
@@ -51,10 +51,10 @@ module _ (w : List ℕ) where
       ended : Exact (Unit {0}) (λ _. []) (λ _. EndOk w → ⊥) (λ _. record { number = 2; place = 0 }) (unless (eqb (begins w (count w)) (length w)) 2 0)
       ended = exact_unless (EndOk w) (eqb (begins w (count w)) (length w)) 2 0 (λ e. eqb-true _ _ e) (λ e. eq-eqb _ _ e)
 
-      entries_clear : least (λ i. not (entry_fits w i)) (count w) ≡ none → (i : ℕ) → (i < count w) × (EntryOk w i → ⊥) → ⊥
+      entries_clear : least (λ i. not (entry_fits w i)) (count w) ≡ None → (i : ℕ) → (i < count w) × (EntryOk w i → ⊥) → ⊥
       entries_clear e i v = v.1 (entry_ok w i (not-false _ (least_none (λ i. not (entry_fits w i)) (count w) e i v.0)))
 
-      none_at : contents_refusal w ≡ none → (c : InContents) → AtContents w c → ⊥
+      none_at : contents_refusal w ≡ None → (c : InContents) → AtContents w c → ⊥
       none_at e counting v = counted.clear (else_none (unless (count_fits w) 2 0) _ e).0 tt v
       none_at e (entry i) v = entries_clear (seq_none (least (λ i. not (entry_fits w i)) (count w)) _ _ (else_none (unless (count_fits w) 2 0) _ e).1).0 i v
       none_at e ending v = ended.clear (seq_none (least (λ i. not (entry_fits w i)) (count w)) _ _ (else_none (unless (count_fits w) 2 0) _ e).1).1 tt v
@@ -62,8 +62,8 @@ module _ (w : List ℕ) where
       Found : Refusal → Type 0
       Found r = (c : InContents) × AtContents w c × (says_contents c ≡ r) × ((d : InContents) → Before (contents_order d) (contents_order c) → AtContents w d → ⊥)
 
-      of : (r : Refusal) → (unless (count_fits w) 2 0 ≡ some r) ⊎ ((unless (count_fits w) 2 0 ≡ none)
-          × (found (least (λ i. not (entry_fits w i)) (count w)) (λ i. some (record { number = 2; place = i })) (λ _. unless (eqb (begins w (count w)) (length w)) 2 0) ≡ some r)) → Found r
+      of : (r : Refusal) → (unless (count_fits w) 2 0 ≡ Some r) ⊎ ((unless (count_fits w) 2 0 ≡ None)
+          × (found (least (λ i. not (entry_fits w i)) (count w)) (λ i. Some (record { number = 2; place = i })) (λ _. unless (eqb (begins w (count w)) (length w)) 2 0) ≡ Some r)) → Found r
       of r (inl e) = let a = counted.first r e in (counting, a.1, a.2, before)
         where
           before : (d : InContents) → Before (contents_order d) (0 ∷ []) → AtContents w d → ⊥
@@ -82,7 +82,7 @@ module _ (w : List ℕ) where
               before (entry j) (inr (z, inr l)) v = l.1
               before ending b v = either (λ l. omega arith) (λ l. omega (arith, l.0)) b
 
-          rest : ((i : ℕ) × (least (λ i. not (entry_fits w i)) (count w) ≡ some i) × (record { number = 2; place = i } ≡ r)) ⊎ ((least (λ i. not (entry_fits w i)) (count w) ≡ none) × (unless (eqb (begins w (count w)) (length w)) 2 0 ≡ some r)) → Found r
+          rest : ((i : ℕ) × (least (λ i. not (entry_fits w i)) (count w) ≡ Some i) × (record { number = 2; place = i } ≡ r)) ⊎ ((least (λ i. not (entry_fits w i)) (count w) ≡ None) × (unless (eqb (begins w (count w)) (length w)) 2 0 ≡ Some r)) → Found r
           rest (inl q) = at_entry q.0 (least_some (λ i. not (entry_fits w i)) (count w) q.0 q.1) q.2
           rest (inr q) = let a = ended.first r q.1 in (ending, a.1, a.2, before)
             where

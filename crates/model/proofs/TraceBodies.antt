@@ -4,10 +4,10 @@ use native.Mathlib.Omega.{arith}
 use mathlib.Core.Path.{◌≡◌, refl, sym, ◌∙◌, subst}
 use mathlib.Core.Logic.{◌⊎◌, inl, inr, ◌≢◌}
 use mathlib.Core.Bool.{false, not}
-use mathlib.Core.Option.{Option, none, some}
+use Rattle.std.specs.Prelude.{Option, None, Some, slice_get}
 use mathlib.Core.List.{List}
 use lib.Dec.{T, eqb}
-use lib.ListN.{length, get_or, get_elem?, replicate}
+use lib.ListN.{length, get_or, replicate}
 use lib.Seq.{get_or-set_same}
 use Rattle.model.specs.Basics.{when}
 use Rattle.model.specs.Book.Syntax.{QueryEntry, WriteVal, Instr, LookupOrInsertDefault, LookupWithDefault, Lookup, LookupWithFallback, Insert, InsertIfEq, Remove, External, ExternalWithFallback, AssertEq, AssertNe, AssertAnyNe, ReadCounter, width}
@@ -25,7 +25,7 @@ use Rattle.model.proofs.Entries.{hold_values, list_values}
 
 -- ## What stays of a lane
 
-pub none_at : (n i : ℕ) → get_or (replicate {A = Option ℕ} n none) i none ≡ none
+pub none_at : (n i : ℕ) → get_or (replicate {A = Option ℕ} n None) i None ≡ None
 none_at zero i = refl
 none_at (suc n) zero = refl
 none_at (suc n) (suc i) = none_at n i
@@ -33,26 +33,26 @@ none_at (suc n) (suc i) = none_at n i
 -- lane o took column col of the row as its dst
 pub record Took (o : Site) (col : ℕ) (r : List ℕ) (s : State) : Type 0 where
   pub word : ℕ
-  pub cell : get_elem? r col ≡ some word
+  pub cell : slice_get r col ≡ Some word
   pub noted : In (took o r) s.trace
-  pub dst : get_or s.out o.lane none ≡ some word
+  pub dst : get_or s.out o.lane None ≡ Some word
 
 -- other lanes leave that
 pub took_later : {o : Site} {col : ℕ} {r : List ℕ} {s s' : State} → Took o col r s → Apart o.lane s s' → Took o col r s'
 took_later p m = record { word = p.word; cell = p.cell; noted = moves_in m p.noted; dst = m.kept.dsts _ (λ n. n refl) ∙ p.dst }
 
-pub gave_took : (o : Site) (col : ℕ) (r : List ℕ) (w : ℕ) (s s' : State) → get_elem? r col ≡ some w → o.lane < length s.out → Apart o.lane (give o.lane w (note (took o r) s)) s' → Took o col r s'
-gave_took o col r w s s' e lt m = record { word = w; cell = e; noted = moves_in m (0, refl); dst = m.kept.dsts o.lane (λ n. n refl) ∙ get_or-set_same s.out o.lane (some w) none lt }
+pub gave_took : (o : Site) (col : ℕ) (r : List ℕ) (w : ℕ) (s s' : State) → slice_get r col ≡ Some w → o.lane < length s.out → Apart o.lane (give o.lane w (note (took o r) s)) s' → Took o col r s'
+gave_took o col r w s s' e lt m = record { word = w; cell = e; noted = moves_in m (0, refl); dst = m.kept.dsts o.lane (λ n. n refl) ∙ get_or-set_same s.out o.lane (Some w) None lt }
 
 -- a lane that is missed waits, live and without a dst
 pub record Waits (i : ℕ) (s s' : State) : Type 0 where
   pub live : T (get_or s'.live i false)
-  pub out : get_or s'.out i none ≡ none
+  pub out : get_or s'.out i None ≡ None
   pub bindings : s'.bindings ≡ s.bindings
   pub size : length s'.out ≡ length s.out
   pub log : Longer (λ q. q.site.lane ≢ i) s.log s'.log
 
-pub waits : (i : ℕ) (e : Event) (s s' s'' : State) → T (get_or s.live i false) → get_or s.out i none ≡ none → Apart i s s' → Apart i (note e s') s'' → Waits i s s''
+pub waits : (i : ℕ) (e : Event) (s s' s'' : State) → T (get_or s.live i false) → get_or s.out i None ≡ None → Apart i s s' → Apart i (note e s') s'' → Waits i s s''
 waits i e s s' s'' l n a b = record {
   live = subst T (sym (b.kept.marks i (λ n. n refl) ∙ a.kept.marks i (λ n. n refl))) l;
   out = b.kept.dsts i (λ n. n refl) ∙ a.kept.dsts i (λ n. n refl) ∙ n;
@@ -105,7 +105,7 @@ module _ (E : Env) (k j : ℕ) where
 
   -- a missed lane: the predicted row of the key that it reads
   abbrev pub Served : ℕ → ℕ → List QueryEntry → ℕ → State → ℕ → List ℕ → Type 0
-  Served dst t args i s t' key = (t' ≡ t) × (list_of (hold dst s.bindings) i (table_of E t).keys args ≡ some key)
+  Served dst t args i s t' key = (t' ≡ t) × (list_of (hold dst s.bindings) i (table_of E t).keys args ≡ Some key)
 
   pub serve_turn : (dst t : ℕ) (args : List QueryEntry) (vs : List WriteVal) (col i : ℕ) (s : State) → Turn (here k j i) (Served dst t args i s) s (serve_missed E (here k j i) dst t args vs col s)
   serve_turn dst t args vs col i s = serve_closed _ _ _ (turn_closed (here k j i) (Served dst t args i s) s) E dst t args vs col s (λ key e. (refl, e)) (turn_refl _ _ s)
@@ -142,7 +142,7 @@ module _ (E : Env) (k j : ℕ) where
         live : (x : ℕ) → T (is_missed (turns is_missed f s x) x) → T (get_or s₀.live x false)
         live x t =
             let z : State = turns is_missed f s x in
-            within x ((pass k j is_missed f A h s 0 x (omega arith)).kept.fewer x (and_T (is_going z.status) (get_or z.live x false) (and_T (is_live z x) (is_none (get_or z.out x none)) t).0).1)
+            within x ((pass k j is_missed f A h s 0 x (omega arith)).kept.fewer x (and_T (is_going z.status) (get_or z.live x false) (and_T (is_live z x) (is_none (get_or z.out x None)) t).0).1)
 
     -- two passes, neither of which asks
     two_add : (f g : ℕ → State → State) → ((x : ℕ) (s : State) → Turn (here k j x) Quiet s (f x s)) → ((x : ℕ) (s : State) → Turn (here k j x) Quiet s (g x s)) → Adds s₀ (missed g (lanes f s₀))
@@ -151,7 +151,7 @@ module _ (E : Env) (k j : ℕ) where
   -- ## What a live lane's lookup leaves
 
   module _ (t : ℕ) (args : List QueryEntry) (col : ℕ) (miss : ℕ → State → State) (h : (x : ℕ) (s : State) → Turn (here k j x) Quiet s (lookup E (here k j x) t args col (miss x) s))
-      (s : State) (size : length s.out ≡ length s.live) (i : ℕ) (l : T (get_or s.live i false)) (key : List ℕ) (read : values_of s.bindings i args ≡ some key) where
+      (s : State) (size : length s.out ≡ length s.live) (i : ℕ) (l : T (get_or s.live i false)) (key : List ℕ) (read : values_of s.bindings i args ≡ Some key) where
     abbrev looks : State
     looks = lanes (λ x. lookup E (here k j x) t args col (miss x)) s
 
@@ -163,17 +163,17 @@ module _ (E : Env) (k j : ℕ) where
     abbrev pub Missed : Type 0
     Missed = (s' : State) × Apart i s s' × Apart i (miss i (note (reads (here k j i) key) s')) looks
 
-    pub looked : T (is_going looks.status) → ((r : List ℕ) × (find (table_of E t).keys (table_of E t).rows key ≡ some r) × Hit r) ⊎ ((find (table_of E t).keys (table_of E t).rows key ≡ none) × Missed)
+    pub looked : T (is_going looks.status) → ((r : List ℕ) × (find (table_of E t).keys (table_of E t).rows key ≡ Some r) × Hit r) ⊎ ((find (table_of E t).keys (table_of E t).rows key ≡ None) × Missed)
     looked g =
         let a : AtTurn k j is_live (λ x. lookup E (here k j x) t args col (miss x)) i s looks = lanes_at k j _ (λ _ _. Quiet) h s i g l in
         let c = look_went (here k j i) E a.start t args col (miss i) (turn_went a g) in
-        let same : c.0 ≡ key = some_inj (sym (list_values s.bindings i (table_of E t).keys args (subst (λ b. list_of b i (table_of E t).keys args ≡ some c.0) a.before.bindings c.1)) ∙ read) in
+        let same : c.0 ≡ key = some_inj (sym (list_values s.bindings i (table_of E t).keys args (subst (λ b. list_of b i (table_of E t).keys args ≡ Some c.0) a.before.bindings c.1)) ∙ read) in
         either
-        (λ p. inl (p.0, subst (λ y. find (table_of E t).keys (table_of E t).rows y ≡ some p.0) same p.2, hit a p.0 p.1 c.0 p.3 (subst (λ z. Apart i z looks) p.4 a.after)))
-        (λ p. inr (subst (λ y. find (table_of E t).keys (table_of E t).rows y ≡ none) same p.0, (a.start, a.before, subst (λ y. Apart i (miss i (note (reads (here k j i) y) a.start)) looks) same (subst (λ z. Apart i z looks) p.1 a.after))))
+        (λ p. inl (p.0, subst (λ y. find (table_of E t).keys (table_of E t).rows y ≡ Some p.0) same p.2, hit a p.0 p.1 c.0 p.3 (subst (λ z. Apart i z looks) p.4 a.after)))
+        (λ p. inr (subst (λ y. find (table_of E t).keys (table_of E t).rows y ≡ None) same p.0, (a.start, a.before, subst (λ y. Apart i (miss i (note (reads (here k j i) y) a.start)) looks) same (subst (λ z. Apart i z looks) p.1 a.after))))
         c.2
       where
-        hit : (a : AtTurn k j is_live (λ x. lookup E (here k j x) t args col (miss x)) i s looks) (r : List ℕ) (w : ℕ) (ws : List ℕ) → get_elem? r col ≡ some w → Apart i (give i w (note (took (here k j i) r) (note (reads (here k j i) ws) a.start))) looks → Hit r
+        hit : (a : AtTurn k j is_live (λ x. lookup E (here k j x) t args col (miss x)) i s looks) (r : List ℕ) (w : ℕ) (ws : List ℕ) → slice_get r col ≡ Some w → Apart i (give i w (note (took (here k j i) r) (note (reads (here k j i) ws) a.start))) looks → Hit r
         hit a r w ws e m = (
           gave_took (here k j i) col r w (note (reads (here k j i) ws) a.start) looks e (omega (arith, live_below s.live i l, a.before.kept.size, size)) m,
           longer_trans _ s.log a.start.log looks.log a.before.grows.log m.grows.log,
@@ -183,15 +183,15 @@ module _ (E : Env) (k j : ℕ) where
 
   -- a lane that is served is live, and found no row
   pub serve_asks : (t : ℕ) (args : List QueryEntry) (vs : List WriteVal) (col dst : ℕ) (s : State) → length s.out ≡ length s.live → (x : ℕ) (z : State)
-      → Apart x (lanes (first_turn (LookupOrInsertDefault t args vs col dst)) s) z → T (is_missed z x) → (key : List ℕ) → list_of (hold dst z.bindings) x (table_of E t).keys args ≡ some key
+      → Apart x (lanes (first_turn (LookupOrInsertDefault t args vs col dst)) s) z → T (is_missed z x) → (key : List ℕ) → list_of (hold dst z.bindings) x (table_of E t).keys args ≡ Some key
       → T (get_or s.live x false) × Misses E s x t args key
   serve_asks t args vs col dst s size x z b m key p =
       let ins : Instr = LookupOrInsertDefault t args vs col dst in
       let a : Later s (lanes (first_turn ins) s) = lanes_later k j (first_turn ins) (λ _ _. Quiet) (first_turn_lem ins) s in
-      let q = and_T (is_live z x) (is_none (get_or z.out x none)) m in
+      let q = and_T (is_live z x) (is_none (get_or z.out x None)) m in
       let q' = and_T (is_going z.status) (get_or z.live x false) q.0 in
       let l : T (get_or s.live x false) = a.kept.fewer x (b.kept.fewer x q'.1) in
-      let read : values_of s.bindings x args ≡ some key = hold_values dst s.bindings x args (list_values (hold dst s.bindings) x (table_of E t).keys args (subst (λ y. list_of (hold dst y) x (table_of E t).keys args ≡ some key) (b.bindings ∙ a.bindings) p)) in (
+      let read : values_of s.bindings x args ≡ Some key = hold_values dst s.bindings x args (list_values (hold dst s.bindings) x (table_of E t).keys args (subst (λ y. list_of (hold dst y) x (table_of E t).keys args ≡ Some key) (b.bindings ∙ a.bindings) p)) in (
         l,
         (
           read,

@@ -4,10 +4,10 @@ use native.Mathlib.Omega.{arith}
 use mathlib.Core.Path.{◌≡◌, refl, sym, ap, ◌∙◌, subst}
 use mathlib.Core.Logic.{◌⊎◌, inl, inr, ◌↔◌}
 use mathlib.Core.Bool.{Bool, true, false, ◌&&◌}
-use mathlib.Core.Option.{Option, none, some}
+use Rattle.std.specs.Prelude.{Option, None, Some, slice_get}
 use mathlib.Core.List.{List, [], ◌∷◌, ◌++◌, map}
 use lib.Dec.{T, T_not, eqb_refl}
-use lib.ListN.{get_or, get_elem?}
+use lib.ListN.{get_or}
 use Rattle.model.specs.Basics.{when}
 use Rattle.model.specs.Book.Syntax.{Counter, QueryEntry, Var, Instr, LookupOrInsertDefault, LookupWithDefault, Lookup, LookupWithFallback, Insert, InsertIfEq, Remove, External, ExternalWithFallback, AssertEq, AssertNe, AssertAnyNe, ReadCounter, dst_of, Step, rule_at}
 use Rattle.model.specs.Machine.State.{State, Event, mask, reads, took, asks, going, full, is_going, predicted, Env, note, with_counters, change, logged, frame}
@@ -45,8 +45,8 @@ pub reads_all : ReadsAll
 unfolding reads_of read_first read_then
 reads_all (LookupOrInsertDefault t args vs col dst) e = joined e args (entries_of vs)
 reads_all (LookupWithDefault t args col dst x) e = (
-  λ h. either (λ q. inr (0, ap some q)) inl (in_cons x args h),
-  either (in_there x args) (λ h. either (λ q. (0, ap some q)) (λ q. absurd (in_none q)) (in_cons x [] h)),
+  λ h. either (λ q. inr (0, ap Some q)) inl (in_cons x args h),
+  either (in_there x args) (λ h. either (λ q. (0, ap Some q)) (λ q. absurd (in_none q)) (in_cons x [] h)),
 )
 reads_all (Lookup t args col dst) e = alone e args
 reads_all (LookupWithFallback t key f args col dst) e = joined e key args
@@ -67,22 +67,22 @@ unfolding finish
 finish_log k d s = when_ind (λ z. z.log ≡ s.log) (is_going s.status) _ s (λ _. bound d) refl
   where
     bound : (d : Option ℕ) → (bind_out d s).log ≡ s.log
-    bound none = refl
-    bound (some x) = refl
+    bound None = refl
+    bound (Some x) = refl
 
 -- dst stands for what the lane was given
-pub finish_dst : (k d : ℕ) (s : State) (i w : ℕ) → T (is_going s.status) → get_or s.out i none ≡ some w → value_of (finish k (some d) s).bindings i (Var d) ≡ some w
+pub finish_dst : (k d : ℕ) (s : State) (i w : ℕ) → T (is_going s.status) → get_or s.out i None ≡ Some w → value_of (finish k (Some d) s).bindings i (Var d) ≡ Some w
 unfolding finish
 finish_dst k d s i w g e =
-    subst (λ z. value_of z.bindings i (Var d) ≡ some w) (sym (when_yes (is_going s.status) _ s g))
+    subst (λ z. value_of z.bindings i (Var d) ≡ Some w) (sym (when_yes (is_going s.status) _ s g))
     (ap (lane_of i) (bind_same d (map or_stale s.out) s.bindings d (eqb_refl d)) ∙ out_column s.out i w e)
 
-lookup_dst : (ins : Instr) (f : LookupAt) → lookup_of ins ≡ some f → dst_of ins ≡ some f.dst
+lookup_dst : (ins : Instr) (f : LookupAt) → lookup_of ins ≡ Some f → dst_of ins ≡ Some f.dst
 unfolding lookup_of dst_of
-lookup_dst (LookupOrInsertDefault t args vs col dst) f e = ap (λ y. some y.dst) (some_inj e)
-lookup_dst (LookupWithDefault t args col dst x) f e = ap (λ y. some y.dst) (some_inj e)
-lookup_dst (Lookup t args col dst) f e = ap (λ y. some y.dst) (some_inj e)
-lookup_dst (LookupWithFallback t key c args col dst) f e = ap (λ y. some y.dst) (some_inj e)
+lookup_dst (LookupOrInsertDefault t args vs col dst) f e = ap (λ y. Some y.dst) (some_inj e)
+lookup_dst (LookupWithDefault t args col dst x) f e = ap (λ y. Some y.dst) (some_inj e)
+lookup_dst (Lookup t args col dst) f e = ap (λ y. Some y.dst) (some_inj e)
+lookup_dst (LookupWithFallback t key c args col dst) f e = ap (λ y. Some y.dst) (some_inj e)
 lookup_dst (Insert t vals) f e = absurd (none_some e)
 lookup_dst (InsertIfEq t l r vals) f e = absurd (none_some e)
 lookup_dst (Remove t args) f e = absurd (none_some e)
@@ -127,12 +127,12 @@ module _ (E : Env) (counters : List Counter) (steps : List Step) where
       (λ h. part_then E k j s (going_T c.goes) i (lane_live E counters steps c) ins (post E counters steps c) (ap (λ y. y.log) (post_is E counters steps c) ∙ finish_log k (dst_of ins) z) (post_part c) u' e h.0 h.1) p)
 
   -- the dst of a lane that took it from a row
-  took_dst : {k j i : ℕ} {ins : Instr} (c : Comes E counters steps k j i ins) {col d : ℕ} {r : List ℕ} → T (is_going (lanes_part E counters steps c).status) → dst_of ins ≡ some d → Took (here k j i) col r (lanes_part E counters steps c)
-      → get_elem? r col ≡ value_of (post E counters steps c).bindings i (Var d)
-  took_dst {k} {j} {i} c {d = d} g e p = p.cell ∙ sym (subst (λ z. value_of z.bindings i (Var d) ≡ some p.word) (sym (post_is E counters steps c ∙ ap (λ o. finish k o (lanes_part E counters steps c)) e)) (finish_dst k d (lanes_part E counters steps c) i p.word g p.dst))
+  took_dst : {k j i : ℕ} {ins : Instr} (c : Comes E counters steps k j i ins) {col d : ℕ} {r : List ℕ} → T (is_going (lanes_part E counters steps c).status) → dst_of ins ≡ Some d → Took (here k j i) col r (lanes_part E counters steps c)
+      → slice_get r col ≡ value_of (post E counters steps c).bindings i (Var d)
+  took_dst {k} {j} {i} c {d = d} g e p = p.cell ∙ sym (subst (λ z. value_of z.bindings i (Var d) ≡ Some p.word) (sym (post_is E counters steps c ∙ ap (λ o. finish k o (lanes_part E counters steps c)) e)) (finish_dst k d (lanes_part E counters steps c) i p.word g p.dst))
 
   -- the row is noted, and dst bound if the instruction ends
-  takes_from : (n k j i : ℕ) (ins : Instr) (c : Comes E counters steps k j i ins) → k < n → (l : LookupAt) → lookup_of ins ≡ some l → (r : List ℕ) → Took (here k j i) l.col r (lanes_part E counters steps c) → TakesFrom E counters steps n c l r
+  takes_from : (n k j i : ℕ) (ins : Instr) (c : Comes E counters steps k j i ins) → k < n → (l : LookupAt) → lookup_of ins ≡ Some l → (r : List ℕ) → Took (here k j i) l.col r (lanes_part E counters steps c) → TakesFrom E counters steps n c l r
   takes_from n k j i ins c lt l e r p = (part_noted E counters steps c n lt p.noted, λ g. took_dst c (part_goes E counters steps c (going_T g)) (lookup_dst ins l e) p)
 
   pub rows_noted : RowsNoted E counters steps
@@ -140,24 +140,24 @@ module _ (E : Env) (counters : List Counter) (steps : List Step) where
   rows_noted n k j i ins c u lt f e key read = (
     λ r q. takes_from n k j i ins c lt f e r (part_took E k j (pre E counters steps c) (going_T c.goes) i (lane_live E counters steps c) key r ins f e (λ z. u (part_status E counters steps c ∙ z)) (read, q)),
     λ args vs q none'.
-        let c' : Comes E counters steps k j i (LookupOrInsertDefault f.table args vs f.col f.dst) = record { rule = c.rule; lanes = c.lanes; columns = c.columns; is_step = c.is_step; is_instr = c.is_instr ∙ ap some q; begun = c.begun; goes = c.goes; live = c.live } in
+        let c' : Comes E counters steps k j i (LookupOrInsertDefault f.table args vs f.col f.dst) = record { rule = c.rule; lanes = c.lanes; columns = c.columns; is_step = c.is_step; is_instr = c.is_instr ∙ ap Some q; begun = c.begun; goes = c.goes; live = c.live } in
         let same : f.key ≡ args = ap (λ y. y.key) (some_inj (sym e ∙ ap lookup_of q)) in
         either
         (λ p. inl (p.0, part_noted E counters steps c' n lt p.1.0, takes_from n k j i _ c' lt f (ap lookup_of (sym q) ∙ e) p.0 p.1.1))
         (λ p. inr (p.0, p.1, cut_row E counters steps c' n lt p.0 p.2))
-        (part_asks E k j (pre E counters steps c') (going_T c'.goes) i (lane_live E counters steps c') f.table args vs f.col f.dst key (λ z. u (part_status E counters steps c' ∙ z)) (subst (λ x. values_of (pre E counters steps c).bindings i x ≡ some key) same read, none')),
+        (part_asks E k j (pre E counters steps c') (going_T c'.goes) i (lane_live E counters steps c') f.table args vs f.col f.dst key (λ z. u (part_status E counters steps c' ∙ z)) (subst (λ x. values_of (pre E counters steps c).bindings i x ≡ Some key) same read, none')),
   )
 
   -- ## A prediction
 
   abbrev Answered : (n k t : ℕ) → List ℕ → Type 0
   Answered n k t key = (new : Bool) × (r : List ℕ) × ((run E counters steps (suc k)).answers ≡ predicted new r ∷ (run E counters steps k).answers) × In (took (here k 0 0) r) (run E counters steps n).trace
-      × ((r' : List ℕ) → find (table_of E t).keys (table_of E t).rows key ≡ some r' → r ≡ r')
-      × (find (table_of E t).keys (table_of E t).rows key ≡ none → In (asks (here k 0 0) t key r) (run E counters steps n).trace)
+      × ((r' : List ℕ) → find (table_of E t).keys (table_of E t).rows key ≡ Some r' → r ≡ r')
+      × (find (table_of E t).keys (table_of E t).rows key ≡ None → In (asks (here k 0 0) t key r) (run E counters steps n).trace)
 
   -- a predicted row
   answer_made : (n k t : ℕ) (key : List ℕ) {z : State} → run E counters steps (suc k) ≡ z → ((x : Event) → In x z.trace → In x (run E counters steps n).trace) → (new : Bool) (r : List ℕ) (s' : State) → s'.answers ≡ (run E counters steps k).answers
-      → z ≡ answers (here k 0 0) E t key new r s' → find (table_of E t).keys (table_of E t).rows key ≡ none → Answered n k t key
+      → z ≡ answers (here k 0 0) E t key new r s' → find (table_of E t).keys (table_of E t).rows key ≡ None → Answered n k t key
   answer_made n k t key {z} e noted new r s' same q none' = (
     new,
     r,
@@ -173,7 +173,7 @@ module _ (E : Env) (counters : List Counter) (steps : List Step) where
 
   pub answers_noted : AnswersNoted E counters steps
   answers_noted n k t key vs is g lt =
-      let s : State = frame (λ _. none) [] [] (run E counters steps k) in
+      let s : State = frame (λ _. None) [] [] (run E counters steps k) in
       let z : State = predict E (here k 0 0) t key vs s in
       let g₀ : (run E counters steps k).status ≡ going = T-going _ ((run_grows E counters steps k (suc k) (omega arith)).goes (going_T g)) in
       let e : run E counters steps (suc k) ≡ z = stepped E counters steps k t key vs is g₀ n lt in
@@ -181,7 +181,7 @@ module _ (E : Env) (counters : List Counter) (steps : List Step) where
       let noted : (x : Event) → In x z.trace → In x (run E counters steps n).trace = row_noted E counters steps k t key vs is g₀ n lt in
       either
       (λ p. (false, p.0, ap (λ x. x.answers) (e ∙ p.2), noted _ (subst (λ x. In (took (here k 0 0) p.0) x.trace) (sym p.2) (0, refl)), (λ r' q. some_inj (sym p.1 ∙ q)), (λ q. absurd (none_some (sym q ∙ p.1)))))
-      (λ p. either (λ q. either (λ y. answer_made n k t key e noted false q.0 s refl y.1 p.0) (λ y. answer_made n k t key e noted true q.0 (logged (row_of (here k 0 0) E s t q.0) (note (reads (here k 0 0) q.0) (with_counters y.0 s))) refl y.3 p.0) q.1) (λ q. absurd ((cut_unlogged (here k 0 0) E s (λ _. none) t key vs z q).0 gz)) p.1)
+      (λ p. either (λ q. either (λ y. answer_made n k t key e noted false q.0 s refl y.1 p.0) (λ y. answer_made n k t key e noted true q.0 (logged (row_of (here k 0 0) E s t q.0) (note (reads (here k 0 0) q.0) (with_counters y.0 s))) refl y.3 p.0) q.1) (λ q. absurd ((cut_unlogged (here k 0 0) E s (λ _. None) t key vs z q).0 gz)) p.1)
       (predict_went (here k 0 0) E s t key vs (going_unstuck z gz))
 
   -- ## Masks
@@ -191,8 +191,8 @@ module _ (E : Env) (counters : List Counter) (steps : List Step) where
   finish_notes k d s = when_cases (λ z. Going z → In (mask k z.live) z.trace) (is_going s.status) _ s (λ _ _. bound d) (λ t g. absurd (T_not (is_going s.status) t g))
     where
       bound : (d : Option ℕ) → In (mask k (bind_out d s).live) (mask k s.live ∷ (bind_out d s).trace)
-      bound none = (0, refl)
-      bound (some x) = (0, refl)
+      bound None = (0, refl)
+      bound (Some x) = (0, refl)
 
   -- the mask before instruction j is noted as soon as the batch comes to it
   mask_there : (k r lanes : ℕ) (columns : List (List ℕ)) (j : ℕ) → let s : State = before E counters steps k r lanes columns j in Going s → In (mask k s.live) s.trace
@@ -201,7 +201,7 @@ module _ (E : Env) (counters : List Counter) (steps : List Step) where
   mask_there k r lanes columns (suc j) g =
       let s : State = before E counters steps k r lanes columns j in
       let P : State → Type 0 = λ z. Going z → In (mask k z.live) z.trace in
-      found_ind P (get_elem? (rule_at E.rules r).instrs j) (λ ins. instruction E k j ins s) (λ _. s)
+      found_ind P (slice_get (rule_at E.rules r).instrs j) (λ ins. instruction E k j ins s) (λ _. s)
       (λ ins _. when_ind P (is_going s.status && any_live s.live) _ s (λ _. finish_notes k (dst_of ins) (body E k j ins (clear s))) (mask_there k r lanes columns j))
       (λ _. mask_there k r lanes columns j) g
 
@@ -213,4 +213,4 @@ module _ (E : Env) (counters : List Counter) (steps : List Step) where
 
   pub records_noted : RecordsNoted E counters steps
   unfolding run
-  records_noted n m r e = let a = run_grows E counters steps 0 n (omega arith) in All-at (RecordNoted (run E counters steps n).trace) a.log.0 m a.noted (sym (ap (λ l. get_elem? l m) a.log.1) ∙ e)
+  records_noted n m r e = let a = run_grows E counters steps 0 n (omega arith) in All-at (RecordNoted (run E counters steps n).trace) a.log.0 m a.noted (sym (ap (λ l. slice_get l m) a.log.1) ∙ e)

@@ -4,10 +4,10 @@ use native.Mathlib.Omega.{arith}
 use mathlib.Core.Path.{◌≡◌, refl, sym, ap, ◌∙◌, subst}
 use mathlib.Core.Logic.{◌⊎◌, inl, inr}
 use mathlib.Core.Bool.{Bool, false, ◌&&◌}
-use mathlib.Core.Option.{Option, none, some}
+use Rattle.std.specs.Prelude.{Option, None, Some, slice_get}
 use mathlib.Core.List.{List}
 use lib.Dec.{T}
-use lib.ListN.{length, get_or, get_elem?}
+use lib.ListN.{length, get_or}
 use Rattle.model.specs.Basics.{found}
 use Rattle.model.specs.Book.Syntax.{Counter, Instr, dst_of, Rule, Step, batch, rule_at}
 use Rattle.model.specs.Machine.State.{State, Site, Event, mask, asks, is_going, going, Env, note}
@@ -31,11 +31,11 @@ unfolding finish
 finish_grows k d s = when_ind (Grows (λ e. (l : List Bool) × (e ≡ mask k l)) (λ _. ⊥) s) (is_going s.status) _ s (λ _. bound d) (grows_refl _ _ s)
   where
     bound : (d : Option ℕ) → Grows (λ e. (l : List Bool) × (e ≡ mask k l)) (λ _. ⊥) s (note (mask k s.live) (bind_out d s))
-    bound none = grows_note _ _ s s (grows_refl _ _ s) (mask k s.live) (s.live, refl)
-    bound (some x) = grows_note _ _ s s (grows_refl _ _ s) (mask k s.live) (s.live, refl)
+    bound None = grows_note _ _ s s (grows_refl _ _ s) (mask k s.live) (s.live, refl)
+    bound (Some x) = grows_note _ _ s s (grows_refl _ _ s) (mask k s.live) (s.live, refl)
 
 module _ (E : Env) (counters : List Counter) (steps : List Step) where
-  pub run_step : (k : ℕ) (st : Step) → get_elem? steps k ≡ some st → (run E counters steps k).status ≡ going → run E counters steps (suc k) ≡ step E k st (run E counters steps k)
+  pub run_step : (k : ℕ) (st : Step) → slice_get steps k ≡ Some st → (run E counters steps k).status ≡ going → run E counters steps (suc k) ≡ step E k st (run E counters steps k)
   unfolding run
   run_step k st e g = when_yes (is_going (run E counters steps k).status) _ _ (going_T g) ∙ ap (λ o. found o (λ x. step E k x (run E counters steps k)) (λ _. run E counters steps k)) e
 
@@ -44,7 +44,7 @@ module _ (E : Env) (counters : List Counter) (steps : List Step) where
   From k m o = ((o.step ≡ k) × (m ≤ o.instr)) ⊎ (suc k ≤ o.step)
 
   -- what a batch has left before instruction m is kept to the end of the run
-  pub batch_grows : (k r lanes : ℕ) (columns : List (List ℕ)) → get_elem? steps k ≡ some (batch r lanes columns) → (run E counters steps k).status ≡ going → (m : ℕ) → m ≤ length (rule_at E.rules r).instrs
+  pub batch_grows : (k r lanes : ℕ) (columns : List (List ℕ)) → slice_get steps k ≡ Some (batch r lanes columns) → (run E counters steps k).status ≡ going → (m : ℕ) → m ≤ length (rule_at E.rules r).instrs
       → (n : ℕ) → k < n → GrowsAt (From k m) (λ _. Unit {0}) (before E counters steps k r lanes columns m) (run E counters steps n)
   unfolding step end
   batch_grows k r lanes columns is g m le n lt =
@@ -128,5 +128,5 @@ module _ (E : Env) (counters : List Counter) (steps : List Step) where
     part_status = ap (λ z. z.status) post_is ∙ when_ind (λ z. z.status ≡ lanes_part.status) (is_going lanes_part.status) _ lanes_part (λ _. bound (dst_of ins)) refl
       where
         bound : (d : Option ℕ) → (bind_out d lanes_part).status ≡ lanes_part.status
-        bound none = refl
-        bound (some x) = refl
+        bound None = refl
+        bound (Some x) = refl

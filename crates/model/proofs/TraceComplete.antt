@@ -4,9 +4,8 @@ use native.Mathlib.Omega.{arith}
 use mathlib.Core.Path.{◌≡◌, refl, sym, ap, ◌∙◌, subst}
 use mathlib.Core.Logic.{◌⊎◌, inl, inr}
 use mathlib.Core.Bool.{false}
-use mathlib.Core.Option.{none, some}
+use Rattle.std.specs.Prelude.{None, Some, slice_get}
 use mathlib.Core.List.{List, []}
-use lib.ListN.{get_elem?}
 use Rattle.model.specs.Book.Syntax.{Counter, QueryEntry, WriteVal, LookupOrInsertDefault, Step, prediction}
 use Rattle.model.specs.Machine.State.{State, Status, Event, asks, going, spent, full, is_going, Env, frame}
 use Rattle.model.specs.Machine.Values.{find}
@@ -44,9 +43,9 @@ module _ (E : Env) (counters : List Counter) (steps : List Step) where
 
   -- ## A prediction
 
-  module _ (k t : ℕ) (key : List ℕ) (vs : List WriteVal) (is : get_elem? steps k ≡ some (prediction t key vs)) (g : (run E counters steps k).status ≡ going) (n : ℕ) (lt : k < n) where
+  module _ (k t : ℕ) (key : List ℕ) (vs : List WriteVal) (is : slice_get steps k ≡ Some (prediction t key vs)) (g : (run E counters steps k).status ≡ going) (n : ℕ) (lt : k < n) where
     abbrev s : State
-    s = frame (λ _. none) [] [] (run E counters steps k)
+    s = frame (λ _. None) [] [] (run E counters steps k)
 
     abbrev z : State
     z = predict E (here k 0 0) t key vs s
@@ -61,23 +60,23 @@ module _ (E : Env) (counters : List Counter) (steps : List Step) where
     stops : is_going z.status ≡ false → run E counters steps n ≡ z
     stops ng = still E counters steps (suc k) n lt (ap (λ x. is_going x.status) stepped ∙ ng) ∙ stepped
 
-    pub row_asked_lem : RowWent (here k 0 0) E s (λ _. none) t key vs (answers (here k 0 0) E t key) z → (r : List ℕ) × In (asks (here k 0 0) t key r) z.trace
+    pub row_asked_lem : RowWent (here k 0 0) E s (λ _. None) t key vs (answers (here k 0 0) E t key) z → (r : List ℕ) × In (asks (here k 0 0) t key r) z.trace
     row_asked_lem (r, p) = (r, either (λ q. subst (λ x. In (asks (here k 0 0) t key r) x.trace) (sym q.1) (1, refl)) (λ q. subst (λ x. In (asks (here k 0 0) t key r) x.trace) (sym q.3) (1, refl)) p)
 
-    row_cut : find (table_of E t).keys (table_of E t).rows key ≡ none → RowCut (here k 0 0) E s (λ _. none) t key vs z → CutRow E counters steps n (here k 0 0)
+    row_cut : find (table_of E t).keys (table_of E t).rows key ≡ None → RowCut (here k 0 0) E s (λ _. None) t key vs z → CutRow E counters steps n (here k 0 0)
     row_cut none' p = record { table = t; key = key; asker = predicts vs is g none'; ends = either (λ q. inl (over ∙ q)) (λ q. inr (over ∙ q)) (ends p); last = inr (vs, is); unasked = λ y u ws r _ h. omega (arith, run_event E counters steps k (here k 0 y) (asks (here k 0 y) u ws r) (refl, tt) (old y u ws r p (subst (λ x. In (asks (here k 0 y) u ws r) x.trace) (stops (ended (ends p))) h))) }
       where
-        ends : RowCut (here k 0 0) E s (λ _. none) t key vs z → (z.status ≡ spent) ⊎ (z.status ≡ full)
+        ends : RowCut (here k 0 0) E s (λ _. None) t key vs z → (z.status ≡ spent) ⊎ (z.status ≡ full)
         ends q = either (λ e. inl (ap (λ x. x.status) e.1)) (λ e. inr (ap (λ x. x.status) e.3)) q.1
 
         over : (run E counters steps n).status ≡ z.status
         over = ap (λ x. x.status) (stops (ended (ends p)))
 
-        old : (y u : ℕ) (ws r : List ℕ) → RowCut (here k 0 0) E s (λ _. none) t key vs z → In (asks (here k 0 y) u ws r) z.trace → In (asks (here k 0 y) u ws r) (run E counters steps k).trace
+        old : (y u : ℕ) (ws r : List ℕ) → RowCut (here k 0 0) E s (λ _. None) t key vs z → In (asks (here k 0 y) u ws r) z.trace → In (asks (here k 0 y) u ws r) (run E counters steps k).trace
         old y u ws r (n, inl e) h = subst (λ x. In (asks (here k 0 y) u ws r) x.trace) e.1 h
         old y u ws r (n, inr e) h = either (λ q. absurd (asks≢reads (sym q))) (λ q. q) (in_cons _ (run E counters steps k).trace (subst (λ x. In (asks (here k 0 y) u ws r) x.trace) e.3 h))
 
-    row_complete : find (table_of E t).keys (table_of E t).rows key ≡ none → Unstuck (run E counters steps n) → ((r : List ℕ) × In (asks (here k 0 0) t key r) (run E counters steps n).trace) ⊎ CutBefore E counters steps n (here k 0 0)
+    row_complete : find (table_of E t).keys (table_of E t).rows key ≡ None → Unstuck (run E counters steps n) → ((r : List ℕ) × In (asks (here k 0 0) t key r) (run E counters steps n).trace) ⊎ CutBefore E counters steps n (here k 0 0)
     row_complete none' u = either
         (λ p. absurd (none_some (sym none' ∙ p.1)))
         (λ p. either (λ q. let r = row_asked_lem q in inl (r.0, row_noted _ r.1)) (λ q. inr (0, omega arith, row_cut none' q)) p.1)

@@ -4,7 +4,7 @@ use native.Mathlib.Omega.{arith}
 use mathlib.Core.Path.{◌≡◌, sym, ap, ◌∙◌, subst}
 use mathlib.Core.Logic.{◌⊎◌, inl, inr}
 use mathlib.Core.Bool.{Bool, not}
-use mathlib.Core.Option.{some}
+use Rattle.std.specs.Prelude.{Some}
 use mathlib.Core.List.{List, ◌∷◌}
 use lib.Dec.{T, eqb}
 use lib.ListN.{length, take, drop}
@@ -109,7 +109,7 @@ module _ (E : Env) (k j : ℕ) where
   module _ (dst t : ℕ) (args : List QueryEntry) (vs : List WriteVal) (col : ℕ) where
     -- where the run stops in a lane's turn, its counter is spent, or the row that it built has no room
     pub serve_stops : (x : ℕ) (s : State) → let z : State = serve_missed E (here k j x) dst t args vs col s in Going s → Unstuck z → (Going z → ⊥)
-        → (key : List ℕ) × (list_of (hold dst s.bindings) x (table_of E t).keys args ≡ some key) × RowCut (here k j x) E (note (reads (here k j x) key) s) (hold dst s.bindings) t key vs z
+        → (key : List ℕ) × (list_of (hold dst s.bindings) x (table_of E t).keys args ≡ Some key) × RowCut (here k j x) E (note (reads (here k j x) key) s) (hold dst s.bindings) t key vs z
     serve_stops x s g u n =
         let z : State = serve_missed E (here k j x) dst t args vs col s in
         let p = serve_went (here k j x) E s dst t args vs col u in

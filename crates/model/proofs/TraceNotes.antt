@@ -3,7 +3,7 @@ use Prim.Native.Nat.{ℕ}
 use mathlib.Core.Path.{◌≡◌, refl, sym, ◌∙◌, subst}
 use mathlib.Core.Logic.{inl, inr}
 use mathlib.Core.Bool.{Bool, not}
-use mathlib.Core.Option.{some}
+use Rattle.std.specs.Prelude.{Some}
 use mathlib.Core.List.{List, [], ◌∷◌}
 use lib.Dec.{eqb, eqb_refl}
 use lib.ListN.{take, drop}
@@ -23,7 +23,7 @@ use Rattle.model.proofs.Went.{default_went, pair_went, any_went, look_went, call
 
 -- the entry has a word in lane o, and it is noted
 abbrev pub EntryNoted : List Event → Site → Bindings → QueryEntry → Type 0
-EntryNoted tr o b e = (w : ℕ) × (value_of b o.lane e ≡ some w) × Noted tr o w
+EntryNoted tr o b e = (w : ℕ) × (value_of b o.lane e ≡ Some w) × Noted tr o w
 
 pub noted_more : (tr tr' : List Event) → ((x : Event) → In x tr → In x tr') → (o : Site) (b : Bindings) (e : QueryEntry) → EntryNoted tr o b e → EntryNoted tr' o b e
 noted_more tr tr' f o b e p = (p.0, p.1, (p.2.0, either (λ h. inl (f _ h)) (λ h. inr (f _ h)) p.2.1, p.2.2))
@@ -34,7 +34,7 @@ noted_later {L} {Q} {R} {s} {s'} m o b e p = noted_more s.trace s'.trace (λ x h
 -- what a list of entries stands for is noted
 pub record ListNoted (o : Site) (b : Bindings) (es : List QueryEntry) (s : State) : Type 0 where
   pub words : List ℕ
-  pub read : values_of b o.lane es ≡ some words
+  pub read : values_of b o.lane es ≡ Some words
   pub noted : In (reads o words) s.trace
 
 pub list_entry : {o : Site} {b : Bindings} {es : List QueryEntry} {s : State} → ListNoted o b es s → (e : QueryEntry) → In e es → EntryNoted s.trace o b e
@@ -116,13 +116,13 @@ module _ (E : Env) (k j : ℕ) (i : ℕ) (s : State) where
       let p = look_went o E s t args col (take_default o x) g in
       let same : p.0 ≡ key = some_inj (sym (list_values s.bindings i (table_of E t).keys args p.1) ∙ m.0) in
       either
-      (λ q. absurd (none_some (sym m.1 ∙ subst (λ y. find (table_of E t).keys (table_of E t).rows y ≡ some q.0) same q.2)))
+      (λ q. absurd (none_some (sym m.1 ∙ subst (λ y. find (table_of E t).keys (table_of E t).rows y ≡ Some q.0) same q.2)))
       (λ q. let d = default_went o (note (reads o p.0) s) x (subst Unstuck q.1 g) in
       (d.0, d.1, (d.0 ∷ [], inl (subst (λ z. In (reads o (d.0 ∷ [])) z.trace) (sym (q.1 ∙ d.2)) (0, refl)), (0, refl))))
       p.2
 
   -- the row of 6
-  pub equal_notes : (t : ℕ) (l r : QueryEntry) (vals : List QueryEntry) (a : ℕ) → value_of s.bindings i l ≡ some a → value_of s.bindings i r ≡ some a → Unstuck (first_turn E k j (InsertIfEq t l r vals) i s)
+  pub equal_notes : (t : ℕ) (l r : QueryEntry) (vals : List QueryEntry) (a : ℕ) → value_of s.bindings i l ≡ Some a → value_of s.bindings i r ≡ Some a → Unstuck (first_turn E k j (InsertIfEq t l r vals) i s)
       → ListNoted o s.bindings vals (first_turn E k j (InsertIfEq t l r vals) i s)
   equal_notes t l r vals a p q g =
       let w = pair_went o s l r (λ a b. when (eqb a b) (stage_list E o 0 t (width (table_of E t)) vals)) g in

@@ -5,7 +5,7 @@ use native.Mathlib.Omega.{arith}
 use mathlib.Core.Path.{◌≡◌, refl, sym, ap, ◌∙◌, subst}
 use mathlib.Core.Logic.{◌⊎◌, inl, inr, ◌≢◌}
 use mathlib.Core.Bool.{Bool, true, false, ◌&&◌}
-use mathlib.Core.Option.{none, some}
+use Rattle.std.specs.Prelude.{None, Some}
 use mathlib.Core.List.{List}
 use lib.Dec.{T, T_not}
 use lib.ListN.{length, get_or}
@@ -189,7 +189,7 @@ module _ (k j : ℕ) (b : State → ℕ → Bool) (f : ℕ → State → State) 
 -- ## The two passes
 
 abbrev pub is_missed : State → ℕ → Bool
-is_missed s i = is_live s i && is_none (get_or s.out i none)
+is_missed s i = is_live s i && is_none (get_or s.out i None)
 
 -- turns of any lanes
 abbrev pub Later : State → State → Type 0
@@ -220,14 +220,14 @@ module _ (k j : ℕ) (f : ℕ → State → State) (A : ℕ → State → ℕ �
   live_then : (s' : State) → Apart i s s' → T (get_or s.live i false) → T (is_going s'.status) → T (is_live s' i)
   live_then s' m l g = T_and (is_going s'.status) (get_or s'.live i false) g (subst T (sym (m.kept.marks i (λ n. n refl))) l)
 
-  missed_then : (s' : State) → Apart i s s' → T (get_or s.live i false) → get_or s.out i none ≡ none → T (is_going s'.status) → T (is_missed s' i)
-  missed_then s' m l e g = T_and (is_live s' i) (is_none (get_or s'.out i none)) (live_then s' m l g) (rw (m.kept.dsts i (λ n. n refl) ∙ e) tt)
+  missed_then : (s' : State) → Apart i s s' → T (get_or s.live i false) → get_or s.out i None ≡ None → T (is_going s'.status) → T (is_missed s' i)
+  missed_then s' m l e g = T_and (is_live s' i) (is_none (get_or s'.out i None)) (live_then s' m l g) (rw (m.kept.dsts i (λ n. n refl) ∙ e) tt)
 
   pub lanes_cut : T (get_or s.live i false) → AtTurn k j is_live f i s (lanes f s) ⊎ CutAt k j is_live f i s (lanes f s)
   unfolding lanes
   lanes_cut l = turn_or_cut k j is_live f A h s (λ x z e. rw e) (length s.live) i (live_below s.live i l) (live_then _ (pass_before k j is_live f A h s i) l)
 
-  pub missed_cut : T (get_or s.live i false) → get_or s.out i none ≡ none → AtTurn k j is_missed f i s (missed f s) ⊎ CutAt k j is_missed f i s (missed f s)
+  pub missed_cut : T (get_or s.live i false) → get_or s.out i None ≡ None → AtTurn k j is_missed f i s (missed f s) ⊎ CutAt k j is_missed f i s (missed f s)
   unfolding missed
   missed_cut l e = turn_or_cut k j is_missed f A h s (λ x z e. rw e) (length s.live) i (live_below s.live i l) (missed_then _ (pass_before k j is_missed f A h s i) l e)
 
@@ -235,11 +235,11 @@ module _ (k j : ℕ) (f : ℕ → State → State) (A : ℕ → State → ℕ �
   pub lanes_at : Going (lanes f s) → T (get_or s.live i false) → AtTurn k j is_live f i s (lanes f s)
   lanes_at g l = either (λ a. a) (λ c. absurd (c.stopped g)) (lanes_cut l)
 
-  pub missed_at : Going (missed f s) → T (get_or s.live i false) → get_or s.out i none ≡ none → AtTurn k j is_missed f i s (missed f s)
+  pub missed_at : Going (missed f s) → T (get_or s.live i false) → get_or s.out i None ≡ None → AtTurn k j is_missed f i s (missed f s)
   missed_at g l e = either (λ a. a) (λ c. absurd (c.stopped g)) (missed_cut l e)
 
   -- a lane that has its dst is passed over
-  pub missed_past : (w : ℕ) → get_or s.out i none ≡ some w → Apart i s (missed f s)
+  pub missed_past : (w : ℕ) → get_or s.out i None ≡ Some w → Apart i s (missed f s)
   unfolding missed
   missed_past w e =
       pass_apart k j is_missed f A h s 0 (length s.live) i

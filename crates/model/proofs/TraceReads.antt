@@ -4,10 +4,10 @@ use native.Mathlib.Omega.{arith}
 use mathlib.Core.Path.{◌≡◌, refl, sym, ap, ◌∙◌, subst}
 use mathlib.Core.Logic.{◌⊎◌, inl, inr, ◌≢◌}
 use mathlib.Core.Bool.{Bool, true, false}
-use mathlib.Core.Option.{none, some}
+use Rattle.std.specs.Prelude.{None, Some, slice_get}
 use mathlib.Core.List.{List, [], ◌∷◌}
 use lib.Dec.{T}
-use lib.ListN.{length, get_or, get_elem?, length-replicate}
+use lib.ListN.{length, get_or, length-replicate}
 use Rattle.model.specs.Book.Syntax.{QueryEntry, WriteVal, Instr, LookupOrInsertDefault, LookupWithDefault, Lookup, LookupWithFallback, Insert, InsertIfEq, Remove, External, ExternalWithFallback, AssertEq, AssertNe, AssertAnyNe, ReadCounter}
 use Rattle.model.specs.Machine.State.{State, Site, Record, Event, reads, took, asks, spent, full, is_going, Env, note, give, lose, with_counters, logged}
 use Rattle.model.specs.Machine.Values.{hold, value_of, values_of, list_of}
@@ -42,9 +42,9 @@ module _ (E : Env) (k j : ℕ) (s₀ : State) (g₀ : Going s₀) (i : ℕ) (l :
   s = clear s₀
 
   size : length s.out ≡ length s.live
-  size = length-replicate (length s₀.live) none
+  size = length-replicate (length s₀.live) None
 
-  empty : get_or s.out i none ≡ none
+  empty : get_or s.out i None ≡ None
   empty = none_at (length s₀.live) i
 
   abbrev first : Instr → State
@@ -63,14 +63,14 @@ module _ (E : Env) (k j : ℕ) (s₀ : State) (g₀ : Going s₀) (i : ℕ) (l :
       (λ p. waits i (reads o key) s p.1.0 _ l empty p.1.1 p.1.2)
       (looked E k j t args col (λ _. wait) (look_turn E k j t args col) s size i l key m.0 g)
 
-  call_waits : (f1 : ℕ) (args1 : List QueryEntry) (f2 : ℕ) (args2 : List QueryEntry) (dst : ℕ) (ws : List ℕ) → values_of s.bindings i args1 ≡ some ws → E.answer o 0 f1 ws ≡ none → let ins : Instr = ExternalWithFallback f1 args1 f2 args2 dst in T (is_going (first ins).status) → Waits i s (first ins)
+  call_waits : (f1 : ℕ) (args1 : List QueryEntry) (f2 : ℕ) (args2 : List QueryEntry) (dst : ℕ) (ws : List ℕ) → values_of s.bindings i args1 ≡ Some ws → E.answer o 0 f1 ws ≡ None → let ins : Instr = ExternalWithFallback f1 args1 f2 args2 dst in T (is_going (first ins).status) → Waits i s (first ins)
   call_waits f1 args1 f2 args2 dst ws read none' g =
       let ins : Instr = ExternalWithFallback f1 args1 f2 args2 dst in
       let a = turn_of ins g in
       let c = call_went o E a.start 0 plain f1 args1 wait (turn_went a g) in
-      let same : c.0 ≡ ws = some_inj (sym (list_values s.bindings i (E.arity f1) args1 (subst (λ b. list_of b i (E.arity f1) args1 ≡ some c.0) a.before.bindings c.1)) ∙ read) in
+      let same : c.0 ≡ ws = some_inj (sym (list_values s.bindings i (E.arity f1) args1 (subst (λ b. list_of b i (E.arity f1) args1 ≡ Some c.0) a.before.bindings c.1)) ∙ read) in
       either
-      (λ p. absurd (none_some (sym none' ∙ subst (λ y. E.answer o 0 f1 y ≡ some p.0) same p.1)))
+      (λ p. absurd (none_some (sym none' ∙ subst (λ y. E.answer o 0 f1 y ≡ Some p.0) same p.1)))
       (λ p. waits i (reads o c.0) s a.start (first ins) l empty a.before (subst (λ z. Apart i z (first ins)) p.1 a.after))
       c.2
 
@@ -124,7 +124,7 @@ module _ (E : Env) (k j : ℕ) (s₀ : State) (g₀ : Going s₀) (i : ℕ) (l :
         is : served ≡ serve_missed E (here k j x) dst t args vs col a.start
         is = a.last n
 
-        cut : (key : List ℕ) → list_of (hold dst a.start.bindings) x (table_of E t).keys args ≡ some key → (served.status ≡ spent) ⊎ (served.status ≡ full) → (ws : List ℕ) (older : List Event) → served.trace ≡ reads (here k j x) ws ∷ older
+        cut : (key : List ℕ) → list_of (hold dst a.start.bindings) x (table_of E t).keys args ≡ Some key → (served.status ≡ spent) ⊎ (served.status ≡ full) → (ws : List ℕ) (older : List Event) → served.trace ≡ reads (here k j x) ws ∷ older
             → ((y v : ℕ) (us r : List ℕ) → In (asks (here k j y) v us r) older → In (asks (here k j y) v us r) a.start.trace) → CutLane x
         cut key read ends ws older last old =
             let q = serve_asks E k j t args vs col dst s size x a.start a.before a.test key read in
@@ -163,7 +163,7 @@ module _ (E : Env) (k j : ℕ) (s₀ : State) (g₀ : Going s₀) (i : ℕ) (l :
           let w : Waits i s (first loid) = look_waits t args col key m g in
           either
           (λ a. let c = serve_went o E a.start dst t args vs col (turn_unstuck a u) in
-          let same : c.0 ≡ key = some_inj (sym (hold_values dst s.bindings i args (list_values (hold dst s.bindings) i (table_of E t).keys args (subst (λ b. list_of (hold dst b) i (table_of E t).keys args ≡ some c.0) (a.before.bindings ∙ w.bindings) c.1))) ∙ m.0) in
+          let same : c.0 ≡ key = some_inj (sym (hold_values dst s.bindings i args (list_values (hold dst s.bindings) i (table_of E t).keys args (subst (λ b. list_of (hold dst b) i (table_of E t).keys args ≡ Some c.0) (a.before.bindings ∙ w.bindings) c.1))) ∙ m.0) in
           let log : Longer (λ q. q.site.lane ≢ i) s.log a.start.log = longer_trans _ s.log (first loid).log a.start.log w.log a.before.grows.log in
           either
           (λ p. inl (record {
@@ -183,7 +183,7 @@ module _ (E : Env) (k j : ℕ) (s₀ : State) (g₀ : Going s₀) (i : ℕ) (l :
 
       module _ (v : Serves) where
         -- its column is taken from the row, and then come other lanes' turns
-        taken : (r : List ℕ) (s' : State) → serve v.start ≡ go_on true r s' → (w : ℕ) × (get_elem? r col ≡ some w) × Apart i (give i w (note (took o r) (note (asks o t key r) s'))) served
+        taken : (r : List ℕ) (s' : State) → serve v.start ≡ go_on true r s' → (w : ℕ) × (slice_get r col ≡ Some w) × Apart i (give i w (note (took o r) (note (asks o t key r) s'))) served
         taken r s' e =
             let p = column_went o col r (note (asks o t key r) s') (subst Unstuck e v.unstuck) in
             (p.0, p.1, subst (λ z. Apart i z served) (e ∙ p.2) v.after)
@@ -196,20 +196,20 @@ module _ (E : Env) (k j : ℕ) (s₀ : State) (g₀ : Going s₀) (i : ℕ) (l :
             row r s' lt e = let p = taken r s' e in (moves_in p.2 (1, refl), gave_took o col r p.0 (note (asks o t key r) s') served p.1 lt p.2)
 
         -- where it stages a row, the words of the entries are in it
-        serve_words : (r : Record) (n : ℕ) → length s.log ≤ n → get_elem? served.log n ≡ some r → r.site ≡ o → (e : QueryEntry) → In e (entries_of vs) → EntryNoted served.trace o s.bindings e
+        serve_words : (r : Record) (n : ℕ) → length s.log ≤ n → slice_get served.log n ≡ Some r → r.site ≡ o → (e : QueryEntry) → In e (entries_of vs) → EntryNoted served.trace o s.bindings e
         serve_words r n le at here' e h = either
             (λ p. let m = taken v.went.0 (note (reads o key) v.start) p.1 in
             absurd (longer_new (λ q. q.site.lane ≢ i) s.log served.log (longer_trans _ s.log v.start.log served.log v.log m.2.grows.log) n le at (ap (λ x. x.lane) here')))
             (λ p. let m = taken v.went.0 _ p.3 in
             let q = (build_word (hold dst v.start.bindings) i vs key v.start.counters p.2).1 e h in
-            (q.0, subst (λ b. value_of b i e ≡ some q.0) v.bindings (hold_value dst v.start.bindings i e q.1), (v.went.0, inl (moves_in m.2 (2, refl)), q.2)))
+            (q.0, subst (λ b. value_of b i e ≡ Some q.0) v.bindings (hold_value dst v.start.bindings i e q.1), (v.went.0, inl (moves_in m.2 (2, refl)), q.2)))
             v.went.1
 
-    serve_entries : Going (first loid) → Unstuck served → (r : Record) (n : ℕ) → length s.log ≤ n → get_elem? served.log n ≡ some r → r.site ≡ o → (e : QueryEntry) → In e (entries_of vs) → EntryNoted served.trace o s.bindings e
+    serve_entries : Going (first loid) → Unstuck served → (r : Record) (n : ℕ) → length s.log ≤ n → slice_get served.log n ≡ Some r → r.site ≡ o → (e : QueryEntry) → In e (entries_of vs) → EntryNoted served.trace o s.bindings e
     serve_entries g u r n le at here' e h =
         let a = turn_of loid g in
         let c = look_went o E a.start t args col wait (turn_went a g) in
-        let read : values_of s.bindings i args ≡ some c.0 = list_values s.bindings i (table_of E t).keys args (subst (λ b. list_of b i (table_of E t).keys args ≡ some c.0) a.before.bindings c.1) in
+        let read : values_of s.bindings i args ≡ Some c.0 = list_values s.bindings i (table_of E t).keys args (subst (λ b. list_of b i (table_of E t).keys args ≡ Some c.0) a.before.bindings c.1) in
         let none_new : Longer (λ q. q.site.lane ≢ i) s.log served.log → ⊥ = λ m. longer_new (λ q. q.site.lane ≢ i) s.log served.log m n le at (ap (λ x. x.lane) here') in
         either
         (λ p. let past = missed_past k j _ (Served E k j dst t args) (serve_turn E k j dst t args vs col) (first loid) i p.2.0.word p.2.0.dst in
@@ -227,7 +227,7 @@ module _ (E : Env) (k j : ℕ) (s₀ : State) (g₀ : Going s₀) (i : ℕ) (l :
         let p = part_last is in
         let lane : p.0 ≡ i = ap (λ y. y.lane) (reads_site (sym p.3 ∙ last)) in
         let w : Word s.bindings i p.1 e = subst (λ x. Word s.bindings x p.1 e) lane (p.4 e h) in
-        (w.0, w.1, (p.1, inl (0, subst (λ x. get_elem? x 0 ≡ some (reads o p.1)) (sym p.3) (ap (λ x. some (reads (here k j x) p.1)) lane)), w.2))
+        (w.0, w.1, (p.1, inl (0, subst (λ x. slice_get x 0 ≡ Some (reads o p.1)) (sym p.3) (ap (λ x. Some (reads (here k j x) p.1)) lane)), w.2))
 
   -- ## The lanes' part
 
@@ -289,12 +289,12 @@ module _ (E : Env) (k j : ℕ) (s₀ : State) (g₀ : Going s₀) (i : ℕ) (l :
   unfolding body read_then
   part_then (LookupOrInsertDefault t args vs col dst) s' q same u e h y =
       inl (either
-      (λ p. serve_entries dst t args vs col (first_on dst t args vs col u) u p.0 p.1 p.2 (subst (λ x. get_elem? x p.1 ≡ some p.0) q p.3) p.4 e h)
+      (λ p. serve_entries dst t args vs col (first_on dst t args vs col u) u p.0 p.1 p.2 (subst (λ x. slice_get x p.1 ≡ Some p.0) q p.3) p.4 e h)
       (λ p. refused_entries dst t args vs col p.1 p.2 (sym (ap (λ z. z.status) (same p.0)) ∙ p.0) (sym (ap (λ z. z.trace) (same p.0)) ∙ p.3) e h) y)
   part_then (LookupWithDefault t args col dst x) s' q same u e h y =
       entry_after (LookupWithDefault t args col dst x) e (inr h) (λ z b u'.
       subst (λ w. EntryNoted (first_turn E k j (LookupWithDefault t args col dst x) i z).trace o z.bindings w) (either (λ p. p) (λ p. absurd (in_none p)) (in_cons x [] h))
-      (default_notes E k j i z t args col x y.0 (subst (λ c. values_of c i args ≡ some y.0) (sym b) y.1.0, y.1.1) u')) u
+      (default_notes E k j i z t args col x y.0 (subst (λ c. values_of c i args ≡ Some y.0) (sym b) y.1.0, y.1.1) u')) u
   part_then (Lookup t args col dst) s' q same u e h y = absurd y
   part_then (LookupWithFallback t key f args col dst) s' q same u e h y =
       let ins : Instr = LookupWithFallback t key f args col dst in
@@ -302,7 +302,7 @@ module _ (E : Env) (k j : ℕ) (s₀ : State) (g₀ : Going s₀) (i : ℕ) (l :
       inl (call_entries 0 dst f args (first ins) (look_waits t key col y.0 y.1 g) (missed_go E k j 0 dst f args (first ins) g u) e h)
   part_then (Insert t vals) s' q same u e h y = absurd y
   part_then (InsertIfEq t l r vals) s' q same u e h y =
-      entry_after (InsertIfEq t l r vals) e (inr h) (λ z b u'. list_entry (equal_notes E k j i z t l r vals y.0 (subst (λ c. value_of c i l ≡ some y.0) (sym b) y.1) (subst (λ c. value_of c i r ≡ some y.0) (sym b) y.2) u') e h) u
+      entry_after (InsertIfEq t l r vals) e (inr h) (λ z b u'. list_entry (equal_notes E k j i z t l r vals y.0 (subst (λ c. value_of c i l ≡ Some y.0) (sym b) y.1) (subst (λ c. value_of c i r ≡ Some y.0) (sym b) y.2) u') e h) u
   part_then (Remove t args) s' q same u e h y = absurd y
   part_then (External f args dst) s' q same u e h y = absurd y
   part_then (ExternalWithFallback f1 args1 f2 args2 dst) s' q same u e h y =

@@ -2,7 +2,7 @@
 use Prim.Native.Nat.{ℕ}
 use mathlib.Core.Path.{◌≡◌, sym, ap, ◌∙◌, subst}
 use mathlib.Core.Bool.{false}
-use mathlib.Core.Option.{none, some}
+use Rattle.std.specs.Prelude.{None, Some}
 use mathlib.Core.List.{List}
 use lib.Dec.{T}
 use lib.ListN.{length, get_or, length-replicate}
@@ -28,19 +28,19 @@ module _ (E : Env) (k j : ℕ) (s₀ : State) (g₀ : Going s₀) (i : ℕ) (l :
   s = clear s₀
 
   abbrev Finds : LookupAt → Type 0
-  Finds f = (values_of s.bindings i f.key ≡ some key) × (find (table_of E f.table).keys (table_of E f.table).rows key ≡ some r)
+  Finds f = (values_of s.bindings i f.key ≡ Some key) × (find (table_of E f.table).keys (table_of E f.table).rows key ≡ Some r)
 
   look_took : (t : ℕ) (args : List QueryEntry) (col : ℕ) (miss : ℕ → State → State) → ((x : ℕ) (s : State) → Going s → Unstuck (miss x s) → Going (miss x s))
-      → (h : (x : ℕ) (s : State) → Turn (here k j x) Quiet s (lookup E (here k j x) t args col (miss x) s)) → (values_of s.bindings i args ≡ some key) × (find (table_of E t).keys (table_of E t).rows key ≡ some r)
+      → (h : (x : ℕ) (s : State) → Turn (here k j x) Quiet s (lookup E (here k j x) t args col (miss x) s)) → (values_of s.bindings i args ≡ Some key) × (find (table_of E t).keys (table_of E t).rows key ≡ Some r)
       → Unstuck (lanes (λ x. lookup E (here k j x) t args col (miss x)) s) → Took o col r (lanes (λ x. lookup E (here k j x) t args col (miss x)) s)
   look_took t args col miss on h p u = either
       (λ q. subst (λ y. Took o col y (lanes (λ x. lookup E (here k j x) t args col (miss x)) s)) (some_inj (sym q.1 ∙ p.1)) q.2.0)
       (λ q. absurd (none_some (sym q.0 ∙ p.1)))
-      (looked E k j t args col miss h s (length-replicate (length s₀.live) none) i l key p.0 (looks_go E k j t args col miss on s g₀ u))
+      (looked E k j t args col miss h s (length-replicate (length s₀.live) None) i l key p.0 (looks_go E k j t args col miss on s g₀ u))
 
   -- a lane that took its dst keeps it while missed lanes are served
   then_took : (t : ℕ) (args : List QueryEntry) (col : ℕ) (f : ℕ → State → State) (A : ℕ → State → ℕ → List ℕ → Type 0) → ((x : ℕ) (s : State) → Turn (here k j x) (A x s) s (f x s))
-      → (values_of s.bindings i args ≡ some key) × (find (table_of E t).keys (table_of E t).rows key ≡ some r)
+      → (values_of s.bindings i args ≡ Some key) × (find (table_of E t).keys (table_of E t).rows key ≡ Some r)
       → let z : State = lanes (λ x. lookup E (here k j x) t args col wait) s in Unstuck (missed f z) → Took o col r (missed f z)
   then_took t args col f A h p u =
       let z : State = lanes (λ x. lookup E (here k j x) t args col wait) s in
@@ -50,7 +50,7 @@ module _ (E : Env) (k j : ℕ) (s₀ : State) (g₀ : Going s₀) (i : ℕ) (l :
   abbrev part : Instr → State
   part ins = body E k j ins s
 
-  pub part_took : (ins : Instr) (f : LookupAt) → lookup_of ins ≡ some f → Unstuck (part ins) → Finds f → Took o f.col r (part ins)
+  pub part_took : (ins : Instr) (f : LookupAt) → lookup_of ins ≡ Some f → Unstuck (part ins) → Finds f → Took o f.col r (part ins)
   unfolding lookup_of body
   part_took (LookupOrInsertDefault t args vs col dst) f e u = subst (λ y. Finds y → Took o y.col r (part (LookupOrInsertDefault t args vs col dst))) (some_inj e) (λ p. then_took t args col _ (Served E k j dst t args) (serve_turn E k j dst t args vs col) p u)
   part_took (LookupWithDefault t args col dst x) f e u = subst (λ y. Finds y → Took o y.col r (part (LookupWithDefault t args col dst x))) (some_inj e) (λ p. look_took t args col (λ i. take_default (here k j i) x) (λ i z g. default_on (here k j i) z g x) (first_turn_lem E k j (LookupWithDefault t args col dst x)) p u)

@@ -5,10 +5,10 @@ use native.Mathlib.Omega.{arith}
 use mathlib.Core.Path.{◌≡◌, refl, sym, ap, subst}
 use mathlib.Core.Logic.{◌⊎◌, inl, inr}
 use mathlib.Core.Bool.{Bool, true, false, ◌&&◌}
-use mathlib.Core.Option.{Option, none, some}
+use Rattle.std.specs.Prelude.{Option, None, Some, slice_get}
 use mathlib.Core.List.{List, []}
 use lib.Dec.{T, eqb}
-use lib.ListN.{length, get_elem?, length-replicate}
+use lib.ListN.{length, length-replicate}
 use Rattle.model.specs.Basics.{when, only}
 use Rattle.model.specs.Book.Syntax.{Counter, WriteVal, Instr, dst_of, width, Rule, Step, batch, prediction, rule_at}
 use Rattle.model.specs.Machine.State.{State, Site, Event, mask, reads, took, asks, is_going, Env, note, change, frame, stuck, predicted, reply}
@@ -87,15 +87,15 @@ module _ (E : Env) where
     finish_adds g s' a = when_ind Adds (is_going s'.status) _ s' (λ _. bound (dst_of ins)) a
       where
         bound : (d : Option ℕ) → Adds (note (mask k s'.live) (bind_out d s'))
-        bound none = grows_note _ _ s s' a (mask k s'.live) (g, inl (s'.live, refl))
-        bound (some d) = grows_note _ _ s s' a (mask k s'.live) (g, inl (s'.live, refl))
+        bound None = grows_note _ _ s s' a (mask k s'.live) (g, inl (s'.live, refl))
+        bound (Some d) = grows_note _ _ s s' a (mask k s'.live) (g, inl (s'.live, refl))
 
     pub instruction_adds : Adds (instruction E k j ins s)
     unfolding instruction
     instruction_adds =
         when_ind Adds (is_going s.status && any_live s.live) _ s
         (λ t. let g : T (is_going s.status) = (and_T (is_going s.status) (any_live s.live) t).0 in
-        finish_adds g (body E k j ins (clear s)) (grows_map (λ e h. (g, inr h)) (λ r h. h) (clear s) (body E k j ins (clear s)) (body_adds E k j ins (clear s) (length-replicate (length s.live) none))))
+        finish_adds g (body E k j ins (clear s)) (grows_map (λ e h. (g, inr h)) (λ r h. h) (clear s) (body E k j ins (clear s)) (body_adds E k j ins (clear s) (length-replicate (length s.live) None))))
         (grows_refl _ _ s)
 
     instr_at_lem : (e : Event) → InstrEvent k j ins s e → EventAt (InInstrs k j (suc j)) (λ k'. k' ≡ k) e
@@ -113,7 +113,7 @@ module _ (E : Env) where
   instructions_grow k r s m (suc n) le = either
       (λ (lt : m < suc n). grows_trans _ _ (instructions E k r m s) (instructions E k r n s) (instructions E k r (suc n) s)
       (grows_at (λ o p. (p.0, p.1, omega (arith, p.2))) (λ k' e. e) (instructions E k r m s) (instructions E k r n s) (instructions_grow k r s m n (omega arith)))
-      (found_ind (GrowsAt (InInstrs k m (suc n)) (λ k'. k' ≡ k) (instructions E k r n s)) (get_elem? r.instrs n) (λ ins. instruction E k n ins (instructions E k r n s)) (λ _. instructions E k r n s)
+      (found_ind (GrowsAt (InInstrs k m (suc n)) (λ k'. k' ≡ k) (instructions E k r n s)) (slice_get r.instrs n) (λ ins. instruction E k n ins (instructions E k r n s)) (λ _. instructions E k r n s)
       (λ ins _. grows_at (λ o p. (p.0, omega (arith, p.1), p.2)) (λ k' e. e) (instructions E k r n s) (instruction E k n ins (instructions E k r n s)) (instruction_grows k n ins (instructions E k r n s)))
       (λ _. grows_refl _ _ (instructions E k r n s))))
       (λ e. subst (λ q. GrowsAt (InInstrs k q (suc n)) (λ k'. k' ≡ k) (instructions E k r q s) (instructions E k r (suc n) s)) (sym e) (grows_refl _ _ (instructions E k r (suc n) s)))
@@ -138,12 +138,12 @@ module _ (E : Env) where
       stages = λ r s' e n m. grows_logged _ _ s s' m r e n;
     }
 
-    pub predict_adds : (t : ℕ) (key : List ℕ) (vs : List WriteVal) → (find (table_of E t).keys (table_of E t).rows key ≡ none → A t key) → Owned (predict E o t key vs s)
+    pub predict_adds : (t : ℕ) (key : List ℕ) (vs : List WriteVal) → (find (table_of E t).keys (table_of E t).rows key ≡ None → A t key) → Owned (predict E o t key vs s)
     unfolding predict
     predict_adds t key vs a =
-        need_ind Owned (only (eqb (length key) (table_of E t).keys && eqb (length key + length vs) (width (table_of E t))) (some key)) s _ (grows_stop _ _ s s (grows_refl _ _ s) stuck (λ g. g)) (λ _ _.
+        need_ind Owned (only (eqb (length key) (table_of E t).keys && eqb (length key + length vs) (width (table_of E t))) (Some key)) s _ (grows_stop _ _ s s (grows_refl _ _ s) stuck (λ g. g)) (λ _ _.
         found_ind Owned (find (table_of E t).keys (table_of E t).rows key) _ _ (λ r _. grows_note _ _ s s (grows_refl _ _ s) (took o r) refl) (λ e.
-        row_closed o A Owned owned_closed E (λ _. none) t key vs _ (λ new r s' m. answered new r s' (a e) m) s (grows_refl _ _ s)))
+        row_closed o A Owned owned_closed E (λ _. None) t key vs _ (λ new r s' m. answered new r s' (a e) m) s (grows_refl _ _ s)))
       where
         answered : (new : Bool) (r : List ℕ) (s' : State) → A t key → Owned s' → Owned (reply (predicted new r) (note (took o r) (note (asks o t key r) (when new change s'))))
         answered true r s' y m = grows_note _ _ s (note (asks o t key r) s') (grows_note _ _ s s' m (asks o t key r) (refl, y)) (took o r) refl
@@ -164,8 +164,8 @@ module _ (E : Env) where
       let a : GrowsIn k s s₁ = grows_trans _ _ s s₀ s₁ (begin_grows (InStep k) k R n columns s) (grows_at (λ o p. p.0) (λ k' e. e) s₀ s₁ (instructions_grow k R s₀ 0 (length R.instrs) (omega arith))) in
       when_ind (GrowsIn k s) (is_going s₁.status) _ s₁ (λ _. a) a
   step_grows k (prediction t key vs) s =
-      grows_map (own_at (InStep k) (λ k'. k' ≡ k) (here k 0 0) (λ _ _. Unit {0}) refl) (λ r e. ap (λ y. y.step) e) s (predict E (here k 0 0) t key vs (frame (λ _. none) [] [] s))
-      (predict_adds (here k 0 0) (λ _ _. Unit {0}) (frame (λ _. none) [] [] s) t key vs (λ _. tt))
+      grows_map (own_at (InStep k) (λ k'. k' ≡ k) (here k 0 0) (λ _ _. Unit {0}) refl) (λ r e. ap (λ y. y.step) e) s (predict E (here k 0 0) t key vs (frame (λ _. None) [] [] s))
+      (predict_adds (here k 0 0) (λ _ _. Unit {0}) (frame (λ _. None) [] [] s) t key vs (λ _. tt))
 
   module _ (counters : List Counter) (steps : List Step) where
     pub run_grows : (m n : ℕ) → m ≤ n → GrowsAmong m n (run E counters steps m) (run E counters steps n)
@@ -183,7 +183,7 @@ module _ (E : Env) where
         next y =
             let s : State = run E counters steps n in
             when_ind (GrowsAmong m (suc n) s) (is_going s.status) _ s
-            (λ _. found_ind (GrowsAmong m (suc n) s) (get_elem? steps n) (λ st. step E n st s) (λ _. s)
+            (λ _. found_ind (GrowsAmong m (suc n) s) (slice_get steps n) (λ st. step E n st s) (λ _. s)
             (λ st _. grows_at (λ o p. (omega (arith, p), omega (arith, p))) (λ k p. (omega (arith, p), omega (arith, p))) s (step E n st s) (step_grows n st s))
             (λ _. grows_refl _ _ s)) (grows_refl _ _ s)
 

@@ -2,10 +2,10 @@
 use Prim.Native.Nat.{ℕ}
 use mathlib.Core.Path.{◌≡◌, refl, sym, ◌∙◌, subst}
 use mathlib.Core.Bool.{Bool, true, false, not}
-use mathlib.Core.Option.{Option, none, some}
+use Rattle.std.specs.Prelude.{Option, None, Some, slice_get}
 use mathlib.Core.List.{List, [], ◌∷◌, ◌++◌}
 use lib.Dec.{T, leb}
-use lib.ListN.{length, get_or, get_elem?, take, drop, length-set}
+use lib.ListN.{length, get_or, take, drop, length-set}
 use lib.Seq.{get_or-set_other}
 use Rattle.model.specs.Basics.{only, first}
 use Rattle.model.specs.Book.Syntax.{Counter, QueryEntry, WriteVal}
@@ -24,7 +24,7 @@ use Rattle.model.proofs.Grown.{in_there, newer_in, RecordNoted, Grows, grows_ref
 -- only lanes of L have changed, and none came back
 pub record Kept (L : ℕ → Type 0) (live : List Bool) (out : List (Option ℕ)) (live' : List Bool) (out' : List (Option ℕ)) : Type 0 where
   pub marks : (x : ℕ) → (L x → ⊥) → get_or live' x false ≡ get_or live x false
-  pub dsts : (x : ℕ) → (L x → ⊥) → get_or out' x none ≡ get_or out x none
+  pub dsts : (x : ℕ) → (L x → ⊥) → get_or out' x None ≡ get_or out x None
   pub fewer : Within live' live
   pub lanes : length live' ≡ length live
   pub size : length out' ≡ length out
@@ -75,10 +75,10 @@ module _ (L : ℕ → Type 0) (Q : Event → Type 0) (R : Record → Type 0) whe
       grows = m.grows;
       kept = record {
         marks = m.kept.marks;
-        dsts = λ x n. get_or-set_other s'.out i x (some w) none (λ e. n (subst L (sym e) l)) ∙ m.kept.dsts x n;
+        dsts = λ x n. get_or-set_other s'.out i x (Some w) None (λ e. n (subst L (sym e) l)) ∙ m.kept.dsts x n;
         fewer = m.kept.fewer;
         lanes = m.kept.lanes;
-        size = length-set s'.out i (some w) ∙ m.kept.size;
+        size = length-set s'.out i (Some w) ∙ m.kept.size;
       };
       bindings = m.bindings;
       answers = m.answers;
@@ -128,7 +128,7 @@ pub record Closed (o : Site) (A : ℕ → List ℕ → Type 0) (P : State → Ty
 module _ (o : Site) (A : ℕ → List ℕ → Type 0) (P : State → Type 0) (c : Closed o A P) where
   pub column_closed : (col : ℕ) (r : List ℕ) (s : State) → P s → P (take_column o col r s)
   unfolding take_column
-  column_closed col r s p = need_ind P (get_elem? r col) s _ (c.stops stuck s (λ t. t) p) (λ w e. c.gives w _ (c.takes r s p))
+  column_closed col r s p = need_ind P (slice_get r col) s _ (c.stops stuck s (λ t. t) p) (λ w e. c.gives w _ (c.takes r s p))
 
   pub default_closed : (e : QueryEntry) (s : State) → P s → P (take_default o e s)
   unfolding take_default
@@ -179,7 +179,7 @@ module _ (o : Site) (A : ℕ → List ℕ → Type 0) (P : State → Type 0) (c 
         found_ind P (first (predicted_rows (table_of E t).keys t key s.log)) _ _ (λ r _. h false r s p) (λ _.
         need_ind P (row_start E t key vs s.counters) s _ (c.stops stuck s (λ t'. t') p) (λ B _. new_closed t (build b o.lane vs B) (k true) (h true) s p))
 
-    pub serve_closed : (dst t : ℕ) (args : List QueryEntry) (vs : List WriteVal) (col : ℕ) (s : State) → ((key : List ℕ) → list_of (hold dst s.bindings) o.lane (table_of E t).keys args ≡ some key → A t key) → P s → P (serve_missed E o dst t args vs col s)
+    pub serve_closed : (dst t : ℕ) (args : List QueryEntry) (vs : List WriteVal) (col : ℕ) (s : State) → ((key : List ℕ) → list_of (hold dst s.bindings) o.lane (table_of E t).keys args ≡ Some key → A t key) → P s → P (serve_missed E o dst t args vs col s)
     unfolding serve_missed
     serve_closed dst t args vs col s a p =
         need_ind P (list_of (hold dst s.bindings) o.lane (table_of E t).keys args) s _ (c.stops stuck s (λ t'. t') p) (λ key e.

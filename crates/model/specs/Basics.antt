@@ -1,6 +1,5 @@
 -- Small combinators that the definitions share. Each is lazy in its branches: a branch is a function or a folded call.
-use Rattle.std.specs.Prelude.{ℕ, zero, suc, Bool, true, false, ◌&&◌, List, [], ◌∷◌, ◌++◌, eqb}
-use Rattle.std.proofs.Math.Option.{Option, none, some}
+use Rattle.std.specs.Prelude.{ℕ, zero, suc, Bool, true, false, ◌&&◌, List, [], ◌∷◌, ◌++◌, eqb, Option, None, Some}
 
 -- n turns from the front: turn 0 first. A loop `for i in 0..n` has the invariant `state ≡ iter f i start`
 abbrev pub iter : {A : Type 0} → (ℕ → A → A) → ℕ → A → A
@@ -13,24 +12,24 @@ when false f s = s
 
 -- what was found goes to the first function, else the second answers
 abbrev pub found : {A B : Type 0} → Option A → (A → B) → (Unit {0} → B) → B
-found none f g = g tt
-found (some a) f g = f a
+found None f g = g tt
+found (Some a) f g = f a
 
 -- an answer that is there only where a test passes
 abbrev pub only : {A : Type 0} → Bool → Option A → Option A
 only true o = o
-only false o = none
+only false o = None
 
 -- the first answer, else what comes next
 infixr 15 ◌else◌
 abbrev pub ◌else◌ : {A : Type 0} → Option A → (Unit {0} → Option A) → Option A
-o else k = found o some k
+o else k = found o Some k
 
 -- ## Lists
 
 abbrev pub first : {A : Type 0} → List A → Option A
-first [] = none
-first (x ∷ xs) = some x
+first [] = None
+first (x ∷ xs) = Some x
 
 abbrev pub join : {A : Type 0} → List (List A) → List A
 join [] = []
@@ -63,10 +62,10 @@ AllPairs R (x ∷ xs) = All (R x) xs × AllPairs R xs
 
 -- the first of f 0 .. f (n - 1) that is there; nothing past it is computed
 abbrev pub first_some : {A : Type 0} → (ℕ → Option A) → ℕ → Option A
-first_some f n = iter (λ i o. found o some (λ _. f i)) n none
+first_some f n = iter (λ i o. found o Some (λ _. f i)) n None
 
 abbrev pub least : (ℕ → Bool) → ℕ → Option ℕ
-least p n = first_some (λ i. only (p i) (some i)) n
+least p n = first_some (λ i. only (p i) (Some i)) n
 
 abbrev pub how_many : (ℕ → Bool) → ℕ → ℕ
 how_many p n = iter (λ i. when (p i) suc) n 0

@@ -1,7 +1,5 @@
 -- The check of a rule: the four conditions, and the test that refuses with 8, 7, 10 or 9.
-use Rattle.std.specs.Prelude.{ℕ, suc, ◌+◌, ◌≤◌, ◌<◌, ◌≡◌, ◌⊎◌, ◌≢◌, Bool, true, false, ◌||◌, not, List, [], ◌∷◌, ◌++◌, eqb, ltb, leb, length}
-use Rattle.std.proofs.Math.Option.{Option, none, some}
-use Rattle.std.proofs.Math.ListN.{get_elem?}
+use Rattle.std.specs.Prelude.{ℕ, suc, ◌+◌, ◌≤◌, ◌<◌, ◌≡◌, ◌⊎◌, ◌≢◌, Bool, true, false, ◌||◌, not, List, [], ◌∷◌, ◌++◌, eqb, ltb, leb, length, Option, None, Some, slice_get}
 use Rattle.model.specs.Basics.{iter, found, all, All}
 use Rattle.model.specs.Book.Syntax.{QueryEntry, Var, Const, WriteVal, Entry, IncCounter, CurrentVal, Instr, LookupOrInsertDefault, LookupWithDefault, Lookup, LookupWithFallback, Insert, InsertIfEq, Remove, External, ExternalWithFallback, AssertEq, AssertNe, AssertAnyNe, ReadCounter, dst_of, Table, width, Rule, table_at}
 
@@ -120,10 +118,10 @@ pub record Sound (ts : List Table) (arity : ℕ → ℕ) (K : ℕ → Type 0) (i
 
 -- bound before instruction j: a starting variable, or the dst of an earlier instruction
 abbrev pub Known : Rule → ℕ → ℕ → Type 0
-Known r j v = (v < r.starts) ⊎ ((i : ℕ) × (i < j) × (ins : Instr) × (get_elem? r.instrs i ≡ some ins) × (dst_of ins ≡ some v))
+Known r j v = (v < r.starts) ⊎ ((i : ℕ) × (i < j) × (ins : Instr) × (slice_get r.instrs i ≡ Some ins) × (dst_of ins ≡ Some v))
 
 abbrev pub Conditions : List Table → (ℕ → ℕ) → Rule → Type 0
-Conditions ts arity r = (j : ℕ) (ins : Instr) → get_elem? r.instrs j ≡ some ins → Sound ts arity (Known r j) ins
+Conditions ts arity r = (j : ℕ) (ins : Instr) → slice_get r.instrs j ≡ Some ins → Sound ts arity (Known r j) ins
 
 -- ## The test
 
@@ -147,30 +145,30 @@ below? p = ltb p.0 p.1
 
 abbrev pub refuse : Bool → ℕ → Option ℕ → Option ℕ
 refuse true n o = o
-refuse false n o = some n
+refuse false n o = Some n
 
 unfoldable pub check_instr : List Table → (ℕ → ℕ) → (ℕ → Bool) → Instr → Option ℕ
 check_instr ts arity b ins =
     refuse (all fits? (sizes_of ts arity ins)) 8
     (refuse (all (known? b) (reads_of ins)) 7
     (refuse (all free? (held_of ins)) 10
-    (refuse (all below? (columns_of ts arity ins)) 9 none)))
+    (refuse (all below? (columns_of ts arity ins)) 9 None)))
 
 abbrev pub is_dst : Option ℕ → ℕ → Bool
-is_dst none v = false
-is_dst (some x) v = eqb v x
+is_dst None v = false
+is_dst (Some x) v = eqb v x
 
 unfoldable pub bound? : Rule → ℕ → ℕ → Bool
-bound? r j v = iter (λ i b. b || found (get_elem? r.instrs i) (λ ins. is_dst (dst_of ins) v) (λ _. false)) j (ltb v r.starts)
+bound? r j v = iter (λ i b. b || found (slice_get r.instrs i) (λ ins. is_dst (dst_of ins) v) (λ _. false)) j (ltb v r.starts)
 
 -- a refusal and its instruction
 abbrev pub placed : ℕ → Option ℕ → Option (ℕ × ℕ)
-placed j none = none
-placed j (some e) = some (e, j)
+placed j None = None
+placed j (Some e) = Some (e, j)
 
 abbrev pub check_at : List Table → (ℕ → ℕ) → Rule → ℕ → Option (ℕ × ℕ)
-check_at ts arity r j = found (get_elem? r.instrs j) (λ ins. placed j (check_instr ts arity (bound? r j) ins)) (λ _. none)
+check_at ts arity r j = found (slice_get r.instrs j) (λ ins. placed j (check_instr ts arity (bound? r j) ins)) (λ _. None)
 
 -- the first refusal among the first n instructions
 unfoldable pub check : List Table → (ℕ → ℕ) → Rule → ℕ → Option (ℕ × ℕ)
-check ts arity r n = iter (λ j o. found o some (λ _. check_at ts arity r j)) n none
+check ts arity r n = iter (λ j o. found o Some (λ _. check_at ts arity r j)) n None

@@ -1,6 +1,5 @@
 -- The commit of a log: what its removals leave of a table's rows, and into these the rows of its other records, one after the other, each merged with the row that has its key.
-use Rattle.std.specs.Prelude.{ℕ, suc, min, max, Bool, ◌&&◌, not, cond, List, [], ◌∷◌, ◌++◌, eqb, length, take, drop, get_or}
-use Rattle.std.proofs.Math.ListN.{get_elem?}
+use Rattle.std.specs.Prelude.{ℕ, suc, min, max, Bool, ◌&&◌, not, cond, List, [], ◌∷◌, ◌++◌, eqb, length, take, drop, get_or, slice_get}
 use Rattle.model.specs.Basics.{iter, when, found, eq_list, keep_if}
 use Rattle.model.specs.Book.Syntax.{Table}
 use Rattle.model.specs.Machine.State.{Record}
@@ -36,10 +35,10 @@ insertion t r = eqb r.table t && not (eqb r.kind 1)
 module _ (log : List Record) (t : ℕ) (T : Table) where
   -- the first n records' removals, then the first n records' insertions
   abbrev pub removals : ℕ → List (List ℕ) → List (List ℕ)
-  removals n rows = iter (λ i rs. found (get_elem? log i) (λ r. when (removal t r) (without T.keys r.words) rs) (λ _. rs)) n rows
+  removals n rows = iter (λ i rs. found (slice_get log i) (λ r. when (removal t r) (without T.keys r.words) rs) (λ _. rs)) n rows
 
   abbrev pub insertions : ℕ → List (List ℕ) → List (List ℕ)
-  insertions n rows = iter (λ i rs. found (get_elem? log i) (λ r. when (insertion t r) (put T.keys T.merge r.words) rs) (λ _. rs)) n rows
+  insertions n rows = iter (λ i rs. found (slice_get log i) (λ r. when (insertion t r) (put T.keys T.merge r.words) rs) (λ _. rs)) n rows
 
   unfoldable pub committed : Table
   committed = record { keys = T.keys; vals = T.vals; merge = T.merge; rows = insertions (length log) (removals (length log) T.rows) }

@@ -1,6 +1,5 @@
 -- A book to its answer or its refusal, in the order of document 01.
-use Rattle.std.specs.Prelude.{ℕ, ◌+◌, ◌≡◌, Bool, ◌&&◌, List, eqb, leb, length}
-use Rattle.std.proofs.Math.Option.{Option, none, some}
+use Rattle.std.specs.Prelude.{ℕ, ◌+◌, ◌≡◌, Bool, ◌&&◌, List, eqb, leb, length, Option, None, Some}
 use Rattle.model.specs.Basics.{found, ◌else◌, first_some}
 use Rattle.model.specs.Book.Syntax.{Table}
 use Rattle.model.specs.Book.Words.{Refusal, unless, words_of, bytes_refusal}
@@ -41,8 +40,8 @@ module _ (w : List ℕ) where
   unfoldable pub rule_refusal : ℕ → Option Refusal
   rule_refusal r =
       found (check (tables w) arity (read_rule w (rule_first r)) (length (read_rule w (rule_first r)).instrs))
-      (λ e. some (record { number = e.0; place = instr_place w (rule_first r) e.1 }))
-      (λ _. none)
+      (λ e. Some (record { number = e.0; place = instr_place w (rule_first r) e.1 }))
+      (λ _. None)
 
   unfoldable pub rules_refusal : Option Refusal
   rules_refusal = first_some rule_refusal (rule_count w)
@@ -70,10 +69,10 @@ module _ (w : List ℕ) where
 
 -- the step, at its place in the contents, at which a run ended early: a counter spent, the log full. (No book comes to `stuck` here.)
 abbrev pub ended : Status → ℕ → Option Refusal
-ended going p = none
-ended stuck p = none
-ended spent p = some (record { number = 13; place = p })
-ended full p = some (record { number = 12; place = p })
+ended going p = None
+ended stuck p = None
+ended spent p = Some (record { number = 13; place = p })
+ended full p = Some (record { number = 12; place = p })
 
 -- 12 or 13, 15, 16: of the tables after the commit and what the run left; the steps begin at entry p
 unfoldable pub end_refusal : Lent → ℕ → List Table → State → Option Refusal

@@ -1,9 +1,7 @@
 -- The predicted row of a key, in the words of the log and the index: w is the book's words, m the memory of the bindings.
-use Rattle.std.specs.Prelude.{ℕ, ◌+◌, ◌≤◌, ◌≡◌, Bool, true, false, ◌&&◌, ◌||◌, cond, List, length, get_or, set}
+use Rattle.std.specs.Prelude.{ℕ, ◌+◌, ◌≤◌, ◌≡◌, Bool, true, false, ◌&&◌, ◌||◌, cond, List, length, get_or, set, Option, Some, None}
 use Rattle.model.specs.Basics.{iter, when}
 use Rattle.args.specs.declared.Args.{Args}
-use Rattle.tables.specs.declared.Found.{Found}
-use Rattle.tables.specs.declared.Found.TheVariants.{At, Nothing}
 use Rattle.tables.specs.Tables.{found_row}
 use Rattle.predicted_index.specs.declared.Slot.{Slot}
 use Rattle.predicted_index.specs.declared.Slot.TheVariants.{Hit, Free, Full as NoSlot}
@@ -55,7 +53,7 @@ pub record Served : Type 0 where
 abbrev pub as_served : ExecutionState → (log index out : List ℕ) → Served
 as_served state log index out = record { state = state; log = log; index = index; out = out }
 
-abbrev pub stopped_by : Stop → ExecutionState → Got
+abbrev pub stopped_by : Option Stop → ExecutionState → Got
 stopped_by why s = record { made = false; state = stopped why s }
 
 -- a row that was built is logged, and the index has its place in the slot
@@ -64,10 +62,10 @@ logged slot place l index = cond (is_going l.state)
     (record { got = record { made = true; state = l.state }; log = l.log; index = set index slot (place + 1) })
     (record { got = stopped_by l.state.stop l.state; log = l.log; index = index })
 
-abbrev pub whole : ℕ → ℕ → Building → Held → Gotten
-whole table slot b h = cond b.spent
-    (record { got = stopped_by Spent h.state; log = h.log; index = h.index })
-    (logged slot h.state.used (staged 2 table b.row.vals b.row.count (record { state = record { used = h.state.used; counters = b.counters; changed = h.state.changed; stop = h.state.stop }; log = h.log })) h.index)
+-- no row where a counter was spent
+abbrev pub whole : ℕ → ℕ → Option Building → Held → Gotten
+whole table slot (Some b) h = logged slot h.state.used (staged 2 table b.row.vals b.row.count (record { state = record { used = h.state.used; counters = b.counters; changed = h.state.changed; stop = h.state.stop }; log = h.log })) h.index
+whole table slot None h = record { got = stopped_by (Some Spent) h.state; log = h.log; index = h.index }
 
 -- a new row sets the changed flag
 abbrev pub noted : Got → Got
@@ -90,7 +88,7 @@ module _ (w m : List ℕ) where
   abbrev pub by_slot : ℕ → Row → Args → Held → Slot → Gotten
   by_slot i row key h (Hit p) = record { got = record { made = false; state = h.state }; log = h.log; index = h.index }
   by_slot i row key h (Free slot) = inserted i row key slot h
-  by_slot i row key h NoSlot = record { got = stopped_by Full h.state; log = h.log; index = h.index }
+  by_slot i row key h NoSlot = record { got = stopped_by (Some Full) h.state; log = h.log; index = h.index }
 
   -- the predicted row of the key, else a new one
   unfoldable pub gotten : ℕ → Row → Args → Held → Gotten
@@ -105,9 +103,9 @@ module _ (w m : List ℕ) where
 
   -- ## A prediction
 
-  abbrev pub by_row : Row → Args → Held → Found → Gotten
-  by_row row key h (At p) = record { got = record { made = false; state = h.state }; log = h.log; index = h.index }
-  by_row row key h Nothing = let g = gotten 0 row key h in record { got = noted g.got; log = g.log; index = g.index }
+  abbrev pub by_row : Row → Args → Held → Option ℕ → Gotten
+  by_row row key h (Some p) = record { got = record { made = false; state = h.state }; log = h.log; index = h.index }
+  by_row row key h None = let g = gotten 0 row key h in record { got = noted g.got; log = g.log; index = g.index }
 
   -- the committed row is there, else the predicted one, else a new one
   unfoldable pub answered : Row → Args → Held → Gotten

@@ -12,7 +12,6 @@ use execution::{ExecutionState, Live, Stop};
 use ids::{ColumnId, Lane};
 use instr::Entries;
 use predicted_index::{Slot, Sought};
-use tables::Found;
 
 // Which row is asked for: of which table, and the write values of a new one.
 #[derive(Clone, Copy)]
@@ -52,7 +51,7 @@ struct Turn {
 }
 
 // The run ends, and there is no row.
-fn stop(s: ExecutionState, why: Stop) -> Got
+fn stop(s: ExecutionState, why: Option<Stop>) -> Got
     ensures { result ≡ stopped_by why s }
 {
     Got {
@@ -62,6 +61,7 @@ fn stop(s: ExecutionState, why: Stop) -> Got
 }
 
 // A new row, whose place the index takes up in the free slot.
+#[tactic(auto, unfolding(crate::specs::Predict::inserted))]
 fn insert(
     words: &[u32],
     bindings: &[u32],
@@ -79,25 +79,19 @@ fn insert(
     ensures fits { result.state.used ≤ length log.old }
 {
     let row = want.row;
-    let b = build::build(words, bindings, lane, want.key, row.vals, s.counters);
-    if b.spent {
-        return stop(s, Stop::Spent);
-    }
-    let counters = b.counters;
-    let mut started = s;
-    started.counters = counters;
-    let built = b.row;
-    let vals = built.vals;
-    let t = execution::stage(started, 2, row.of.table, &vals, built.count, log);
-    if t.going() {
+    let Some(b) = build::build(words, bindings, lane, want.key, row.vals, s.counters) else {
+        return stop(s, Some(Stop::Spent));
+    };
+    let started = ExecutionState {
+        counters: b.counters,
+        ..s
+    };
+    let state = execution::stage(started, 2, row.of.table, &b.row.vals, b.row.count, log);
+    let made = state.going();
+    if made {
         predicted_index::insert(index, slot, s.used);
-        return Got {
-            made: true,
-            state: t,
-        };
     }
-    let why = t.stop;
-    stop(t, why)
+    Got { made, state }
 }
 
 // The predicted rows. What it would hold is lent: the rows' words stand in the log, and their places in the index.
@@ -106,6 +100,7 @@ pub struct PredictedVals;
 
 impl PredictedVals {
     // The predicted row of the key, else a new one, built by the write values.
+    #[tactic(auto, using(predicted_index::specs::RightLaws::get_below, predicted_index::specs::HomeLaws::home_below), unfolding(crate::specs::Predict::gotten))]
     pub fn get_or_insert_with(
         words: &[u32],
         bindings: &[u32],
@@ -122,17 +117,17 @@ impl PredictedVals {
             (as_held s log.old index.old) }
         ensures fits { result.state.used ≤ length log.old }
     {
-        let row = want.row;
-        let key = want.key;
-        let vals = key.vals;
-        match predicted_index::get(index, log, row.of.table, &vals, row.of.info.keys) {
+        let of = want.row.of;
+        // lent from a copy, so that the call does not keep all of `want` in memory
+        let vals = want.key.vals;
+        match predicted_index::get(index, log, of.table, &vals, of.info.keys) {
             Slot::Hit(_) => Got {
                 made: false,
                 state: s,
             },
             Slot::Free(slot) => insert(words, bindings, lane, want, slot, s, log, index),
             // never so: a log has room for 5461 rows at most
-            Slot::Full => stop(s, Stop::Full),
+            Slot::Full => stop(s, Some(Stop::Full)),
         }
     }
 }
@@ -152,13 +147,14 @@ fn take<'a>(
     ensures { out.new ≡ taken_word words.now ask key.vals lane.0 log.now
         index.now out.old }
 {
+    // lent from a copy, as above
     let vals = key.vals;
     let row = predicted_index::row_of(words, log, chains, index, ask.row.of, &vals);
-    let i = lane.0;
-    out[i] = words::word(row, words::size(ask.col.0));
+    out[lane.0] = words::word(row, words::size(ask.col.0));
 }
 
 // A lane that is served has its word in `out`, unless the run ended.
+#[tactic(auto, unfolding(crate::specs::Predict::served_lane, bindings::specs::Columns::fetched))]
 fn serve_lane(
     words: &[u32],
     chains: &[u32],
@@ -180,14 +176,13 @@ fn serve_lane(
     let s = turn.state;
     if turn.live & s.going() {
         let key = lanes::fetch(words, bindings, ask.key, lane);
-        let row = ask.row;
-        let want = Keyed { row, key };
+        let want = Keyed { row: ask.row, key };
         let got = PredictedVals::get_or_insert_with(words, bindings, lane, want, s, log, index);
-        let t = got.state;
-        if t.going() {
+        if got.state.going() {
             take(words, chains, ask, key, lane, log, index, out);
         }
-        return t;
+        // returned here: as the value of an `if` and its `else` the state would be copied once more
+        return got.state;
     }
     s
 }
@@ -211,35 +206,28 @@ pub fn serve_lanes(
     ensures fits { result.used ≤ length log.old }
 {
     let mask = start.mask;
-    let n = mask.end();
-    let mut s = start.state;
-    let mut i = 0;
-    while i < n {
-        let live = mask.live[i];
+    let mut state = start.state;
+    for i in 0..mask.end() {
         let turn = Turn {
             lane: Lane(i),
-            live,
-            state: s,
+            live: mask.live[i],
+            state,
         };
-        s = serve_lane(words, chains, bindings, ask, turn, log, index, out);
-        i += 1;
+        state = serve_lane(words, chains, bindings, ask, turn, log, index, out);
     }
-    s
+    state
 }
 
 // A new row sets the changed flag.
-fn note_change(got: Got) -> Got
+fn note_change(mut got: Got) -> Got
     ensures { result ≡ noted got }
 {
-    let mut t = got.state;
-    t.changed = t.changed | got.made;
-    Got {
-        made: got.made,
-        state: t,
-    }
+    got.state.changed |= got.made;
+    got
 }
 
 // A key without a committed row has a predicted one afterwards: where it had none before, the row is made, and the changed flag set. An index of the committed rows is lent, or an empty one for none.
+#[tactic(auto, unfolding(crate::specs::Predict::answered))]
 pub fn predict_val(
     words: &[u32],
     chains: &[u32],
@@ -256,15 +244,13 @@ pub fn predict_val(
         (as_held s log.old index.old) }
     ensures fits { result.state.used ≤ length log.old }
 {
-    let row = want.row;
-    let key = want.key;
-    let vals = key.vals;
-    match hash_index::look_up_among(words, chains, row.of.info, row.of.first, &vals) {
-        Found::At(_) => Got {
+    let of = want.row.of;
+    match hash_index::look_up_among(words, chains, of.info, of.first, &want.key.vals) {
+        Some(_) => Got {
             made: false,
             state: s,
         },
-        Found::Nothing => {
+        None => {
             note_change(PredictedVals::get_or_insert_with(
                 words,
                 bindings,

@@ -1,7 +1,8 @@
 -- Probes of an index, for any home and any question: what stands on a chain is met, and a store at the free slot that was met keeps every chain.
-use Rattle.std.specs.Prelude.{ℕ, zero, suc, ◌+◌, ◌-◌, ◌<◌, ◌≡◌, refl, Bool, true, false, List, ◌⊎◌, eqb, ltb, length, get_or, set}
+use Rattle.std.specs.Prelude.{ℕ, zero, suc, ◌+◌, ◌-◌, ◌%◌, ◌<◌, ◌≡◌, refl, Bool, true, false, List, ◌⊎◌, eqb, ltb, length, get_or, set}
 use Rattle.std.proofs.Common.{sym, ap, ◌∙◌, inl, inr, ⊎_elim, arith, get_or-set_same, get_or-set_other, ne_eqb, eq-eqb, eqb-true, ltb-true}
 use Rattle.std.proofs.lemmas.Bool.{eqb-false}
+use Rattle.std.proofs.lemmas.Bool.Decides.{nat_tests}
 use Rattle.predicted_index.specs.declared.Slot.TheVariants.{Hit, Free, Full}
 use Rattle.predicted_index.specs.Index.{after, slot_from, probed, Chain}
 
@@ -16,6 +17,14 @@ pub slot_shift : (h j : ℕ) → slot_from (after h) j ≡ after (slot_from h j)
 unfolding slot_from
 slot_shift h zero = refl
 slot_shift h (suc j) = ap after (slot_shift h j)
+
+pub after_mod : (s : ℕ) → s < 8192 → after s ≡ (s + 1) % 8192
+unfolding after
+after_mod s h = grind (arith, nat_tests)
+
+-- the slot after the one that is j after h
+pub slot_next : (h j : ℕ) → after ((h + j) % 8192) ≡ (h + (j + 1)) % 8192
+slot_next h j = after_mod ((h + j) % 8192) (omega arith) ∙ omega arith
 
 -- a slot is free, or its word answers, or the probe goes on
 pub slot_cases : (P : Type 0) (ix : List ℕ) (m : ℕ → Bool) (s : ℕ) → (get_or ix s 0 ≡ 0 → P) → ((get_or ix s 0 ≡ 0 → ⊥) → m (get_or ix s 0) ≡ true → P) → ((get_or ix s 0 ≡ 0 → ⊥) → m (get_or ix s 0) ≡ false → P) → P
@@ -53,6 +62,8 @@ module _ (ix : List ℕ) (m : ℕ → Bool) (n j s : ℕ) (l : j < n) where
 pub probe_none : (ix : List ℕ) (m : ℕ → Bool) (n j s : ℕ) → n - j ≡ 0 → probed ix m (n - j) s ≡ Full
 unfolding probed
 probe_none ix m n j s e = rw e
+
+pub ruleset probing = (slot_next, probe_free, probe_hit, probe_on, probe_none)
 
 -- ## What a probe has met
 

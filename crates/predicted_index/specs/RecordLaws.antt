@@ -1,8 +1,6 @@
 -- One record more: by its place, among the predicted rows of a key, and counted.
-use Rattle.std.specs.Prelude.{ℕ, zero, suc, ◌+◌, ◌*◌, ◌<◌, ◌≤◌, ◌≡◌, refl, Bool, true, false, ◌&&◌, List, [], ◌∷◌, ◌++◌, ◌⊎◌, eqb, length, get_or, take}
+use Rattle.std.specs.Prelude.{ℕ, zero, suc, ◌+◌, ◌*◌, ◌<◌, ◌≤◌, ◌≡◌, refl, Bool, true, false, ◌&&◌, List, [], ◌∷◌, ◌++◌, ◌⊎◌, eqb, length, get_or, take, None, Some, slice_get}
 use Rattle.std.proofs.Common.{sym, ap, ◌∙◌, inl, inr, ⊎_elim, arith, eqb-true}
-use Rattle.std.proofs.Math.Option.{none, some}
-use Rattle.std.proofs.Math.ListN.{get_elem?}
 use Rattle.model.specs.Basics.{first, keep_if, eq_list, All}
 use Rattle.model.specs.Machine.State.{Record, log_words}
 use Rattle.model.specs.Machine.Values.{is_row, predicted_rows}
@@ -13,27 +11,27 @@ use Rattle.predicted_index.specs.Right.{predicted_count, Whole}
 -- ## By place
 
 module _ {A : Type 0} where
-  pub at_append : (xs ys : List A) (n : ℕ) (x : A) → get_elem? xs n ≡ some x → get_elem? (xs ++ ys) n ≡ some x
+  pub at_append : (xs ys : List A) (n : ℕ) (x : A) → slice_get xs n ≡ Some x → slice_get (xs ++ ys) n ≡ Some x
   at_append [] ys n x e = absurd (none_some e)
   at_append (y ∷ xs) ys zero x e = e
   at_append (y ∷ xs) ys (suc n) x e = at_append xs ys n x e
 
-  pub at_last : (xs : List A) (x : A) → get_elem? (xs ++ (x ∷ [])) (length xs) ≡ some x
+  pub at_last : (xs : List A) (x : A) → slice_get (xs ++ (x ∷ [])) (length xs) ≡ Some x
   at_last [] x = refl
   at_last (y ∷ xs) x = at_last xs x
 
-  pub at_here : (xs : List A) (n : ℕ) (d : A) → n < length xs → get_elem? xs n ≡ some (get_or xs n d)
+  pub at_here : (xs : List A) (n : ℕ) (d : A) → n < length xs → slice_get xs n ≡ Some (get_or xs n d)
   at_here [] n d h = absurd (omega arith)
   at_here (x ∷ xs) zero d h = refl
   at_here (x ∷ xs) (suc n) d h = at_here xs n d (omega arith)
 
-  pub at_past : (xs : List A) (n : ℕ) → length xs ≤ n → get_elem? xs n ≡ none
+  pub at_past : (xs : List A) (n : ℕ) → length xs ≤ n → slice_get xs n ≡ None
   at_past [] n h = refl
   at_past (x ∷ xs) zero h = absurd (omega arith)
   at_past (x ∷ xs) (suc n) h = at_past xs n (omega arith)
 
   -- what stands in a longer list stood in the list, or is the last
-  pub at_cases : (xs : List A) (l : A) (n : ℕ) (x : A) → get_elem? (xs ++ (l ∷ [])) n ≡ some x → (get_elem? xs n ≡ some x) ⊎ ((n ≡ length xs) × (l ≡ x))
+  pub at_cases : (xs : List A) (l : A) (n : ℕ) (x : A) → slice_get (xs ++ (l ∷ [])) n ≡ Some x → (slice_get xs n ≡ Some x) ⊎ ((n ≡ length xs) × (l ≡ x))
   at_cases [] l zero x e = inr (refl, some_inj e)
   at_cases [] l (suc n) x e = absurd (none_some e)
   at_cases (y ∷ xs) l zero x e = inl e
@@ -57,12 +55,12 @@ module _ (k t : ℕ) (key : List ℕ) where
       by false e = e
 
   -- none, where no record is one
-  pub no_rows : (rs : List Record) → ((n : ℕ) (r : Record) → get_elem? rs n ≡ some r → is_row k t key r ≡ false) → predicted_rows k t key rs ≡ []
+  pub no_rows : (rs : List Record) → ((n : ℕ) (r : Record) → slice_get rs n ≡ Some r → is_row k t key r ≡ false) → predicted_rows k t key rs ≡ []
   no_rows [] h = refl
   no_rows (s ∷ rs) h = rw (h 0 s refl) (no_rows rs (λ n r e. h (suc n) r e))
 
   -- the only one, where a record is one
-  pub only_row : (rs : List Record) (n : ℕ) (r : Record) → get_elem? rs n ≡ some r → is_row k t key r ≡ true → length (predicted_rows k t key rs) ≤ 1 → first (predicted_rows k t key rs) ≡ some r.words
+  pub only_row : (rs : List Record) (n : ℕ) (r : Record) → slice_get rs n ≡ Some r → is_row k t key r ≡ true → length (predicted_rows k t key rs) ≤ 1 → first (predicted_rows k t key rs) ≡ Some r.words
   only_row [] n r e y l = absurd (none_some e)
   only_row (s ∷ rs) zero r e y l = let q : s ≡ r = some_inj e in rw (q, y)
   only_row (s ∷ rs) (suc n) r e y l = by (is_row k t key s) (only_row rs n r e y) l
@@ -71,7 +69,7 @@ module _ (k t : ℕ) (key : List ℕ) where
       none_left [] h = refl
       none_left (x ∷ l) h = absurd (omega arith)
 
-      by : (b : Bool) → (length (predicted_rows k t key rs) ≤ 1 → first (predicted_rows k t key rs) ≡ some r.words) → length (keep_if b s.words (predicted_rows k t key rs)) ≤ 1 → first (keep_if b s.words (predicted_rows k t key rs)) ≡ some r.words
+      by : (b : Bool) → (length (predicted_rows k t key rs) ≤ 1 → first (predicted_rows k t key rs) ≡ Some r.words) → length (keep_if b s.words (predicted_rows k t key rs)) ≤ 1 → first (keep_if b s.words (predicted_rows k t key rs)) ≡ Some r.words
       by false on g = on g
       by true on g = absurd (none_some (ap first (sym (none_left (predicted_rows k t key rs) (omega arith))) ∙ on (omega arith)))
 

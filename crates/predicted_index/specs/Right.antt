@@ -1,7 +1,5 @@
 -- What it is for an index to be right for the records of a log, whatever home each key has.
-use Rattle.std.specs.Prelude.{ℕ, zero, suc, ◌+◌, ◌<◌, ◌≤◌, ◌≡◌, List, [], ◌∷◌, eqb, length, get_or, take}
-use Rattle.std.proofs.Math.Option.{some}
-use Rattle.std.proofs.Math.ListN.{get_elem?}
+use Rattle.std.specs.Prelude.{ℕ, zero, suc, ◌+◌, ◌<◌, ◌≤◌, ◌≡◌, List, [], ◌∷◌, eqb, length, get_or, take, Some, slice_get}
 use Rattle.model.specs.Basics.{first, All}
 use Rattle.model.specs.Machine.State.{Record}
 use Rattle.model.specs.Machine.Values.{predicted_rows}
@@ -27,7 +25,7 @@ predicted_count (r ∷ rs) = flag (eqb r.kind 2) + predicted_count rs
 pub record Stored (records : List Record) (v : ℕ) : Type 0 where
   pub index : ℕ
   pub row : Record
-  pub is : get_elem? records index ≡ some row
+  pub is : slice_get records index ≡ Some row
   pub kind : row.kind ≡ 2
   pub place : v ≡ place_of records index + 1
 
@@ -42,11 +40,11 @@ module _ (keys_of : ℕ → ℕ) where
   pub record RowAt (records : List Record) (t : ℕ) (key : List ℕ) (p : ℕ) : Type 0 where
     pub index : ℕ
     pub row : Record
-    pub is : get_elem? records index ≡ some row
+    pub is : slice_get records index ≡ Some row
     pub kind : row.kind ≡ 2
     pub table : row.table ≡ t
     pub place : p ≡ place_of records index
-    pub first_row : first (predicted_rows (keys_of t) t key records) ≡ some row.words
+    pub first_row : first (predicted_rows (keys_of t) t key records) ≡ Some row.words
 
 -- home t key: the slot from which a key of table t is looked for
 module _ (home : ℕ → List ℕ → ℕ) (keys_of : ℕ → ℕ) where
@@ -60,5 +58,5 @@ module _ (home : ℕ → List ℕ → ℕ) (keys_of : ℕ → ℕ) where
     pub once : (t : ℕ) (key : List ℕ) → length (predicted_rows (keys_of t) t key records) ≤ 1
     -- a busy slot stands for a predicted row, and each of these is reached from its home
     pub stored : (s : ℕ) → (get_or ix s 0 ≡ 0 → ⊥) → Stored records (get_or ix s 0)
-    pub reached : (n : ℕ) (r : Record) → get_elem? records n ≡ some r → r.kind ≡ 2 → (j : ℕ) × Chain ix (home_of_row r) (place_of records n + 1) j
+    pub reached : (n : ℕ) (r : Record) → slice_get records n ≡ Some r → r.kind ≡ 2 → (j : ℕ) × Chain ix (home_of_row r) (place_of records n + 1) j
     pub busy : busy_count ix ≡ predicted_count records

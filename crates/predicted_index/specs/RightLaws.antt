@@ -1,13 +1,12 @@
 -- An index that is right for the records answers as the model's predicted rows do, has room, and stays right as records are appended, for any home below 8192.
-use Rattle.std.specs.Prelude.{ℕ, zero, suc, ◌+◌, ◌<◌, ◌≤◌, ◌≡◌, Bool, ◌&&◌, List, [], ◌∷◌, ◌++◌, leb, get_or, take, set, replicate}
+use Rattle.std.specs.Prelude.{ℕ, zero, suc, ◌+◌, ◌<◌, ◌≤◌, ◌≡◌, Bool, ◌&&◌, List, [], ◌∷◌, ◌++◌, leb, get_or, take, set, replicate, Some, slice_get}
 use Rattle.std.proofs.Math.Path.{refl, sym, ap, subst}
 use Rattle.std.proofs.Common.{◌∙◌, append-nil, length-set, get_or-set_same, get_or-set_other}
 use Rattle.std.proofs.Math.Bool.{true, false}
-use Rattle.std.proofs.Math.Option.{some}
 use Rattle.std.proofs.Math.Logic.{⊎_elim}
 use native.Mathlib.Omega.{arith}
 use borrow.Author.Tests.{le-leb, eq-eqb, ne_eqb}
-use Rattle.std.proofs.Math.ListN.{length, get_elem?, length-replicate}
+use Rattle.std.proofs.Math.ListN.{length, length-replicate}
 use Rattle.model.specs.Basics.{keep_if, eq_list}
 use Rattle.model.specs.Machine.State.{Record, log_words}
 use Rattle.model.specs.Machine.Values.{is_row, predicted_rows}
@@ -62,7 +61,7 @@ module _ (home : ℕ → List ℕ → ℕ) (low : (t : ℕ) (key : List ℕ) →
       abbrev Asked : ℕ → Bool
       Asked = answers (log_of records L) t key (keys_of t)
 
-      module _ (n : ℕ) (r : Record) (is : get_elem? records n ≡ some r) (kind : r.kind ≡ 2) where
+      module _ (n : ℕ) (r : Record) (is : slice_get records n ≡ Some r) (kind : r.kind ≡ 2) where
         -- a record of the table, of whose words the key is asked
         same_table : r.table ≡ t → Asked (place_of records n + 1) ≡ eq_list (take (keys_of t) r.words) Key
         unfolding answers same_words
@@ -112,7 +111,7 @@ module _ (home : ℕ → List ℕ → ℕ) (low : (t : ℕ) (key : List ℕ) →
       unfolding slot_of
       get_free s e = no_rows (keys_of t) t Key records none
         where
-          none : (n : ℕ) (r : Record) → get_elem? records n ≡ some r → is_row (keys_of t) t Key r ≡ false
+          none : (n : ℕ) (r : Record) → slice_get records n ≡ Some r → is_row (keys_of t) t Key r ≡ false
           none n r is = ⊎_elim there (λ f. f) (bool_cases (is_row (keys_of t) t Key r))
             where
               there : is_row (keys_of t) t Key r ≡ true → is_row (keys_of t) t Key r ≡ false
@@ -133,7 +132,7 @@ module _ (home : ℕ → List ℕ → ℕ) (low : (t : ℕ) (key : List ℕ) →
     abbrev all : List Record
     all = records ++ (r ∷ [])
 
-    place_kept : (n : ℕ) (x : Record) → get_elem? records n ≡ some x → place_of all n ≡ place_of records n
+    place_kept : (n : ℕ) (x : Record) → slice_get records n ≡ Some x → place_of all n ≡ place_of records n
     place_kept n x is = place_more records r n (omega (arith, at_below records n is))
 
     stored_kept : (v : ℕ) → Stored records v → Stored all v
@@ -154,7 +153,7 @@ module _ (home : ℕ → List ℕ → ℕ) (low : (t : ℕ) (key : List ℕ) →
       stored = λ s b. stored_kept (get_or ix s 0) (ok.stored s b);
       reached = λ n x is kind.
           ⊎_elim
-          (λ (q : get_elem? records n ≡ some x). rw (place_kept n x q) (ok.reached n x q kind))
+          (λ (q : slice_get records n ≡ Some x). rw (place_kept n x q) (ok.reached n x q kind))
           (λ (q : (n ≡ length records) × (r ≡ x)). absurd (d (ap (λ (y : Record). y.kind) q.1 ∙ kind)))
           (at_cases records r n x is);
       busy = ok.busy ∙ sym (count_more records r ∙ rw (ne_eqb _ _ d) (omega arith));
@@ -201,10 +200,10 @@ module _ (home : ℕ → List ℕ → ℕ) (low : (t : ℕ) (key : List ℕ) →
             rw o (stored_kept (get_or ix i 0) (ok.stored i (rw o at b))))
             (eq_cases i s)
 
-        reached_more : (n : ℕ) (x : Record) → get_elem? all n ≡ some x → x.kind ≡ 2 → (j : ℕ) × Chain (set ix s v) (home_of_row home keys_of x) (place_of all n + 1) j
+        reached_more : (n : ℕ) (x : Record) → slice_get all n ≡ Some x → x.kind ≡ 2 → (j : ℕ) × Chain (set ix s v) (home_of_row home keys_of x) (place_of all n + 1) j
         reached_more n x is k =
             ⊎_elim
-            (λ (q : get_elem? records n ≡ some x).
+            (λ (q : slice_get records n ≡ Some x).
             let c = ok.reached n x q k in
             rw (place_kept n x q) (c.0, chain_kept ix s v inside not_zero (home_of_row home keys_of x) (place_of records n + 1) c.0 met.free (λ z. omega arith) c.1))
             (λ (q : (n ≡ length records) × (r ≡ x)).

@@ -1,10 +1,10 @@
 -- A probe never runs out of slots while fewer than 8192 are busy.
-use Rattle.std.specs.Prelude.{ℕ, zero, suc, ◌+◌, ◌-◌, ◌%◌, ◌<◌, ◌≡◌, refl, Bool, true, false, List, [], ◌∷◌, ltb, length, get_or, set, replicate}
-use Rattle.std.proofs.Common.{sym, ◌∙◌, ⊎_elim, arith, ltb-true, ltb-false}
+use Rattle.std.specs.Prelude.{ℕ, zero, suc, ◌+◌, ◌-◌, ◌%◌, ◌<◌, ◌≡◌, refl, Bool, List, [], ◌∷◌, length, get_or, set, replicate}
+use Rattle.std.proofs.Common.{sym, ◌∙◌, arith}
 use Rattle.predicted_index.specs.declared.Slot.TheVariants.{Hit, Free, Full}
 use Rattle.predicted_index.specs.Index.{after, slot_from, probed}
 use Rattle.predicted_index.specs.Right.{one_if_busy, busy_count}
-use Rattle.predicted_index.specs.IndexLaws.{bool_cases, slot_cases, slot_shift, turn_free, turn_hit, turn_on}
+use Rattle.predicted_index.specs.IndexLaws.{after_mod, slot_cases, slot_shift, turn_free, turn_hit, turn_on}
 
 pub none_busy : (n : ℕ) → busy_count (replicate n 0) ≡ 0
 unfolding busy_count
@@ -26,14 +26,6 @@ unfolding busy_count
 busy_more [] t v h e n = absurd (omega arith)
 busy_more (x ∷ l) zero v h e n = rw e (omega (arith, busy_one v n))
 busy_more (x ∷ l) (suc t) v h e n = omega (arith, busy_more l t v (omega arith) e n)
-
-after_mod : (s : ℕ) → s < 8192 → after s ≡ (s + 1) % 8192
-unfolding after
-after_mod s h =
-    ⊎_elim
-    (λ (t : ltb (s + 1) 8192 ≡ true). rw t (omega (arith, ltb-true (s + 1) 8192 t)))
-    (λ (f : ltb (s + 1) 8192 ≡ false). rw f (omega (arith, ltb-false (s + 1) 8192 f)))
-    (bool_cases (ltb (s + 1) 8192))
 
 slot_mod : (h j : ℕ) → h < 8192 → slot_from h j ≡ (h + j) % 8192
 unfolding slot_from

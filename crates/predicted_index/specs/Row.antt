@@ -1,13 +1,11 @@
 -- The row of a key, as a part of the words that hold it: w is the book's words, ix the index of the predicted rows of a log.
-use Rattle.std.specs.Prelude.{ℕ, ◌+◌, List, []}
+use Rattle.std.specs.Prelude.{ℕ, ◌+◌, List, [], Option, Some, None}
 use Rattle.model.specs.Basics.{found, first}
 use Rattle.model.specs.Book.Syntax.{Table}
 use Rattle.model.specs.Book.Decode.{part}
 use Rattle.model.specs.Machine.State.{Record}
 use Rattle.model.specs.Machine.Values.{find, predicted_rows}
 use Rattle.ids.specs.declared.TableId.{TableId}
-use Rattle.tables.specs.declared.Found.{Found}
-use Rattle.tables.specs.declared.Found.TheVariants.{At, Nothing}
 use Rattle.tables.specs.Tables.{info_of, Stands, found_row}
 use Rattle.hash_index.specs.Index.{IndexAmong}
 use Rattle.hash_index.specs.Book.{rows_before}
@@ -32,9 +30,9 @@ predicted_part log n (Free s) = []
 predicted_part log n Full = []
 
 -- n words of the row that was found, else other words
-abbrev pub committed_part : List ℕ → ℕ → Found → List ℕ → List ℕ
-committed_part w n (At p) other = part w p n
-committed_part w n Nothing other = other
+abbrev pub committed_part : List ℕ → ℕ → Option ℕ → List ℕ → List ℕ
+committed_part w n (Some p) other = part w p n
+committed_part w n None other = other
 
 -- the committed row, else the predicted one, else no words
 unfoldable pub row_of : (ℕ → List ℕ → ℕ) → (w log ix : List ℕ) → Sought → List ℕ → List ℕ

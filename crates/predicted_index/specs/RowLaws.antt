@@ -1,10 +1,8 @@
 -- The row of a key is the model's: the committed row, else the first predicted one, else no words.
-use Rattle.std.specs.Prelude.{ℕ, ◌+◌, ◌<◌, ◌≤◌, ◌≡◌, length, drop}
+use Rattle.std.specs.Prelude.{ℕ, ◌+◌, ◌<◌, ◌≤◌, ◌≡◌, length, drop, Option, Some, slice_get, None}
 use Rattle.std.proofs.Math.Path.{refl}
 use Rattle.std.proofs.Common.{sym, ap, ◌∙◌, arith, length-take}
-use Rattle.std.proofs.Math.Option.{Option, some}
 use mathlib.Core.List.{List, [], ◌∷◌}
-use Rattle.std.proofs.Math.ListN.{get_elem?}
 use Rattle.model.specs.Basics.{found, first}
 use Rattle.model.specs.Book.Syntax.{Table, table_at}
 use Rattle.model.specs.Book.Contents.{first_of, table_count}
@@ -14,8 +12,6 @@ use Rattle.model.specs.Machine.State.{Record, log_words}
 use Rattle.model.specs.Machine.Values.{find, predicted_rows}
 use Rattle.model.specs.Laws.Book.{keys_of, width_of, table_is}
 use Rattle.ids.specs.declared.TableId.{TableId}
-use Rattle.tables.specs.declared.Found.{Found}
-use Rattle.tables.specs.declared.Found.TheVariants.{At, Nothing}
 use Rattle.tables.specs.Tables.{info_of, front, found_row}
 use Rattle.tables.specs.TablesLaws.{row_found, find_model}
 use Rattle.record_log.specs.Log.{log_of, place_of}
@@ -39,11 +35,11 @@ row_short home w log ix of key = either_way (found_row w of.info key) (slot_of h
     n : ℕ
     n = of.info.width
 
-    either_way : (f : Found) (s : Slot) → length (committed_part w n f (predicted_part log n s)) ≤ n
-    either_way (At p) s = part_short w p n
-    either_way Nothing (Hit p) = part_short log (p + 2) n
-    either_way Nothing (Free s) = omega arith
-    either_way Nothing Full = omega arith
+    either_way : (f : Option ℕ) (s : Slot) → length (committed_part w n f (predicted_part log n s)) ≤ n
+    either_way (Some p) s = part_short w p n
+    either_way None (Hit p) = part_short log (p + 2) n
+    either_way None (Free s) = omega arith
+    either_way None Full = omega arith
 
 -- an empty index finds no predicted row
 pub none_sought : (home : ℕ → List ℕ → ℕ) (ix log : List ℕ) (t : ℕ) (key : List ℕ) (k n : ℕ) → length ix ≡ 0 → predicted_part log n (slot_of home ix log t key k) ≡ []
@@ -66,9 +62,9 @@ module _ (home : ℕ → List ℕ → ℕ) (w : List ℕ) (t : TableId) (known :
   unfolding read_table
   committed_is other = rw (table_is w t.0 known, find_model w (first_of w t.0) key) (by (found_row w (info_of w t.0) key))
     where
-      by : (f : Found) → committed_part w n f other ≡ found (row_found w n f) (λ r. r) (λ _. other)
-      by (At p) = refl
-      by Nothing = refl
+      by : (f : Option ℕ) → committed_part w n f other ≡ found (row_found w n f) (λ r. r) (λ _. other)
+      by (Some p) = refl
+      by None = refl
 
   -- so all that it finds is committed
   pub row_committed : (log : List ℕ) → row_of home w log [] (sought_in w t) key ≡ row_among table t.0 Key []
@@ -76,7 +72,7 @@ module _ (home : ℕ → List ℕ → ℕ) (w : List ℕ) (t : TableId) (known :
   row_committed log = committed_is []
 
   module _ (low : (t : ℕ) (key : List ℕ) → home t key < 8192) (ix : List ℕ) (records : List Record) (ok : IndexOk home (keys_of w) ix records) (L : ℕ) (fits : log_words records ≤ L) (short : L ≤ 16384)
-      (whole : (i : ℕ) (r : Record) → get_elem? records i ≡ some r → r.kind ≡ 2 → r.table ≡ t.0 → length r.words ≡ n) where
+      (whole : (i : ℕ) (r : Record) → slice_get records i ≡ Some r → r.kind ≡ 2 → r.table ≡ t.0 → length r.words ≡ n) where
     abbrev got : Slot
     got = slot_of home ix (log_of records L) t.0 key (keys_of w t.0)
 

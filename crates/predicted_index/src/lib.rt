@@ -7,7 +7,7 @@ mod row;
 ghost use Rattle.std.specs.Prelude.{◌≡◌, ◌+◌, ◌≤◌, ◌<◌, length, set};
 ghost use Rattle.tables.specs.Tables.{front};
 ghost use Rattle.predicted_index.specs.Home.{home_of};
-ghost use Rattle.predicted_index.specs.Index.{after, answers, probed, slot_of, Small};
+ghost use Rattle.predicted_index.specs.Index.{answers, slot_of, Small};
 
 pub use row::{Sought, row_of};
 
@@ -24,51 +24,31 @@ fn home_of(table: ids::TableId, key: &[u32; 16], k: usize) -> usize
     requires { k ≤ 16 }
     ensures { (result ≡ home_of table.0 (front key.now k)) × (result < 8192) }
 {
-    let mut h = hash_index::mix(0, table.0);
-    let mut i = 0;
-    while i < k {
-        h = hash_index::mix(h, key[i]);
-        i += 1;
-    }
+    let h = key[..k]
+        .iter()
+        .fold(hash_index::mix(0, table.0), |h, x| hash_index::mix(h, *x));
     words::size(h / 524288)
 }
 
-fn next(s: usize) -> usize
-    requires { s < 8192 }
-    ensures { (result ≡ after s) × (result < 8192) }
-{
-    if s + 1 < 8192 { s + 1 } else { 0 }
-}
-
 // Whether v, a place plus 1, stands for a record of this table whose words begin with the key.
+#[tactic(auto, unfolding(crate::specs::Index::answers))]
 fn matches(log: &[u32], table: ids::TableId, key: &[u32; 16], k: usize, v: usize) -> bool
     requires { (k ≤ 16) × (v < 4294967296) }
     ensures { result ≡ answers log.now table.0 key.now k v }
 {
-    if log.len() < v + 1 + k {
-        return false;
-    }
-    if log[v] != table.0 {
-        return false;
-    }
-    tables::same_words(log, v + 1, key, k)
+    v + 1 + k <= log.len() && log[v] == table.0 && tables::same_words(log, v + 1, key, k)
 }
 
-fn probe(
-    index: &[u32],
-    log: &[u32],
-    table: ids::TableId,
-    key: &[u32; 16],
-    k: usize,
-    home: usize,
-) -> Slot
-    requires { (home < 8192) × (k ≤ 16) }
-    ensures is { result ≡ probed index.now (answers log.now table.0 key.now k) 8192 home }
+// Where the predicted row of a key of k words stands in the log, or would stand in the index; past the end of an index there are free slots.
+#[tactic(auto, using(crate::specs::IndexLaws::probing), unfolding(crate::specs::Index::slot_of))]
+pub fn get(index: &[u32], log: &[u32], table: ids::TableId, key: &[u32; 16], k: usize) -> Slot
+    requires { k ≤ 16 }
+    ensures is { result ≡ slot_of home_of index.now log.now table.0 key.now k }
     ensures small { Small result }
 {
-    let mut s = home;
-    let mut j: usize = 0;
-    while j < 8192 {
+    let home = home_of(table, key, k);
+    for j in 0..8192 {
+        let s = (home + j) % 8192;
         let v = words::size_at(index, s);
         if v == 0 {
             return Slot::Free(s);
@@ -76,20 +56,8 @@ fn probe(
         if matches(log, table, key, k, v) {
             return Slot::Hit(v - 1);
         }
-        s = next(s);
-        j += 1;
     }
     Slot::Full
-}
-
-// Where the predicted row of a key of k words stands in the log, or would stand in the index; past the end of an index there are free slots.
-pub fn get(index: &[u32], log: &[u32], table: ids::TableId, key: &[u32; 16], k: usize) -> Slot
-    requires { k ≤ 16 }
-    ensures is { result ≡ slot_of home_of index.now log.now table.0 key.now k }
-    ensures small { Small result }
-{
-    let home = home_of(table, key, k);
-    probe(index, log, table, key, k, home)
 }
 
 // A new row's place, at the free slot that `get` found.

@@ -6,7 +6,7 @@ ghost use Rattle.predicted_index.specs.Row.{sought_in, Searchable, predicted_par
 
 use crate::Slot;
 use ids::TableId;
-use tables::{Found, TableInfo};
+use tables::TableInfo;
 
 // The table in which a row is sought: its number, its sizes, and the number of its first row among the committed rows of all tables.
 #[derive(Clone, Copy)]
@@ -30,6 +30,7 @@ impl Sought {
 }
 
 // The predicted row with the key, or no words.
+#[tactic(auto, using(crate::specs::RowLaws::none_sought))]
 fn in_log<'a>(log: &'a [u32], index: &[u32], of: Sought, key: &[u32; 16]) -> &'a [u32]
     requires { of.info.keys ≤ 16 }
     ensures { result.now ≡ predicted_part log.now of.info.width
@@ -37,17 +38,17 @@ fn in_log<'a>(log: &'a [u32], index: &[u32], of: Sought, key: &[u32; 16]) -> &'a
         of.info.keys) }
 {
     // No home is worked out for an index that has no rows.
-    if index.len() == 0 {
+    if index.is_empty() {
         return &log[..0];
     }
     match crate::get(index, log, of.table, key, of.info.keys) {
         Slot::Hit(p) => words::part(log, p + 2, of.info.width),
-        Slot::Free(_) => &log[..0],
-        Slot::Full => &log[..0],
+        Slot::Free(_) | Slot::Full => &log[..0],
     }
 }
 
 // The committed row with the key, else the predicted one, else no words. An index of the committed rows is lent, or an empty one for none; an empty index of the predicted rows finds none.
+#[tactic(auto, unfolding(crate::specs::Row::row_of))]
 pub fn row_of<'a>(
     words: &'a [u32],
     log: &'a [u32],
@@ -60,7 +61,7 @@ pub fn row_of<'a>(
     ensures { result.now ≡ row_of home_of words.now log.now index.now of key.now }
 {
     match hash_index::look_up_among(words, chains, of.info, of.first, key) {
-        Found::At(p) => words::part(words, p, of.info.width),
-        Found::Nothing => in_log(log, index, of, key),
+        Some(p) => words::part(words, p, of.info.width),
+        None => in_log(log, index, of, key),
     }
 }

@@ -1,116 +1,62 @@
--- What the code of the bodies leans on: the walk of each kind of body as the code's calls.
-use Rattle.std.specs.Prelude.{ℕ, zero, suc, ◌+◌, ◌*◌, ◌<◌, ◌≡◌, Bool, List, [], ◌∷◌, eqb, leb, ltb}
+-- What the code of the bodies leans on: a body's end, a table that is refused at once, and a kind that is none.
+use Rattle.std.specs.Prelude.{ℕ, zero, suc, ◌+◌, ◌<◌, ◌≡◌, Bool, List, [], ◌∷◌, eqb, leb, ltb}
 use Rattle.std.proofs.Math.Path.{refl, ap}
-use Rattle.std.proofs.Common.{sym, arith, add-zero, mul-le-mul, lt-ltb, le-ltb, leb-true}
+use Rattle.std.proofs.Common.{sym, arith, add-zero, le-ltb, leb-true}
 use Rattle.std.proofs.Math.Bool.{true, false}
 use Rattle.std.proofs.lemmas.Bool.{lt-leb}
 use Rattle.std.proofs.Math.ListN.{get_or, get_or-eq_default}
-use Rattle.model.specs.Basics.{iter}
-use Rattle.model.specs.Book.Scan.{Scan, bad, good, ◌▹◌, fine, three, any_word, below, up_to, clean, require, Sizes, step, finish, left, word, list, block, pair, field, instr, scan_table, scan_counter, scan_rule, scan_batch, scan_prediction, scan}
-use Rattle.reader.specs.ScanLaws.{then_is, then_on, iter_bad, word_bad, list_bad}
+use Rattle.model.specs.Book.Scan.{Scan, bad, good, ◌▹◌, fine, three, up_to, require, Sizes, step, finish, left, word, scan_table, scan_counter, scan_rule, scan_batch, scan_prediction, scan}
 
 module _ (end : ℕ) where
-  finish_bad : finish end bad ≡ bad
-  unfolding finish
-  finish_bad = refl
-
   pub finish_is : (s : Scan) → finish end s ≡ left end 0 s
   unfolding finish left
   finish_is bad = refl
   finish_is (good at p q) = ap (λ (n : ℕ). require (eqb n end) (good at p q)) (sym (add-zero at))
 
-module _ (end : ℕ) (w : List ℕ) where
-  block_bad : (n : ℕ) → block end w n bad ≡ bad
-  unfolding left
-  block_bad n = refl
+-- ## A table
 
-  pub block_is : (n : ℕ) (s : Scan) → block end w n s ≡ iter (λ _. word end w clean) n (left end n s)
-  block_is n s = then_is (iter (λ _. word end w clean) n) (iter_bad (word end w clean) (word_bad end w clean) n) (left end n s)
+module _ (end : ℕ) (w : List ℕ) (z : Sizes) (at : ℕ) where
+  abbrev counts : Scan
+  counts = good at 0 0 ▹ word end w (up_to 8) ▹ word end w (up_to 8)
 
-  pub block_stops : (n : ℕ) (s : Scan) → left end n s ≡ bad → block end w n s ≡ bad
-  block_stops n s e = ap (λ (t : Scan). t ▹ iter (λ _. word end w clean) n) e
+  step_three : (s : Scan) → step end three s ≡ bad
+  unfolding step
+  step_three bad = refl
+  step_three (good p a b) = by (ltb p end)
+    where
+      by : (c : Bool) → require c bad ≡ bad
+      by true = refl
+      by false = refl
 
-  module _ (z : Sizes) (at : ℕ) where
-    pub counter_is : scan_counter end w z at ≡ finish end (word end w clean (good at 0 0))
-    unfolding scan_counter
-    counter_is = then_is (finish end) (finish_bad end) (word end w clean (good at 0 0))
+  first : step end fine (good at 0 0) ≡ require (ltb at end) (good (at + 1) 0 0)
+  unfolding step
+  first = refl
 
-    pub rule_is : scan_rule end w z at ≡ finish end (list end w 64 (instr end w z) (word end w (up_to 32) (good at 0 0)))
-    unfolding scan_rule
-    rule_is = then_on (finish end) (finish_bad end) _ _ (then_is (list end w 64 (instr end w z)) (list_bad end w 64 (instr end w z)) (word end w (up_to 32) (good at 0 0)))
+  never : (s : Scan) → s ▹ require false ≡ bad
+  never bad = refl
+  never (good p a b) = refl
 
-    pub batch_is : scan_batch end w z at ≡ block end w (get_or w (at + 2) 0 * get_or w (at + 1) 0) (word end w (up_to 32) (word end w (up_to 256) (word end w (below z.rules) (good at 0 0))))
-    unfolding scan_batch
-    batch_is =
-        then_on (block end w (get_or w (at + 2) 0 * get_or w (at + 1) 0)) (block_bad (get_or w (at + 2) 0 * get_or w (at + 1) 0)) _ _
-        (then_on (word end w (up_to 32)) (word_bad end w (up_to 32)) _ _
-        (then_is (word end w (up_to 256)) (word_bad end w (up_to 256)) (word end w (below z.rules) (good at 0 0))))
+  pub table_empty : get_or w at 0 + get_or w (at + 1) 0 ≡ 0 → scan_table end w z at ≡ bad
+  unfolding scan_table
+  table_empty e = rw (le-ltb 0 (get_or w at 0 + get_or w (at + 1) 0) (omega arith), never counts)
 
-    pub prediction_is : scan_prediction end w z at ≡ finish end (list end w 16 (pair end w z 1 2) (list end w 16 (word end w clean) (word end w (below z.tables) (good at 0 0))))
-    unfolding scan_prediction field
-    prediction_is =
-        then_on (finish end) (finish_bad end) _ _
-        (then_on (list end w 16 (pair end w z 1 2)) (list_bad end w 16 (pair end w z 1 2)) _ _
-        (then_is (list end w 16 (word end w clean)) (list_bad end w 16 (word end w clean)) (word end w (below z.tables) (good at 0 0))))
+  -- 8 and 8 are the most
+  counts_bad : 16 < get_or w at 0 + get_or w (at + 1) 0 → counts ≡ bad
+  counts_bad h = by (leb (get_or w at 0) 8) refl
+    where
+      second : 8 < get_or w (at + 1) 0 → (c : Bool) → require c (good (at + 1) 0 0) ▹ word end w (up_to 8) ≡ bad
+      second l true = rw (lt-leb (get_or w (at + 1) 0) 8 l) (step_three (good (at + 1) 0 0))
+      second l false = refl
 
-    -- ## A table
+      by : (b : Bool) → leb (get_or w at 0) 8 ≡ b → counts ≡ bad
+      by true e = rw (e, first) (second (omega (arith, leb-true (get_or w at 0) 8 e)) (ltb at end))
+      by false e = rw (e, step_three (good at 0 0))
 
-    abbrev counts : Scan
-    counts = good at 0 0 ▹ word end w (up_to 8) ▹ word end w (up_to 8)
-
-    pub table_is : 0 < get_or w at 0 + get_or w (at + 1) 0
-        → scan_table end w z at ≡ block end w (get_or w (at + 3) 0 * (get_or w at 0 + get_or w (at + 1) 0)) (word end w any_word (word end w (below 4) (word end w (up_to 8) (word end w (up_to 8) (good at 0 0)))))
-    unfolding scan_table
-    table_is h =
-        rw (lt-ltb 0 (get_or w at 0 + get_or w (at + 1) 0) h)
-        (then_on (block end w (get_or w (at + 3) 0 * (get_or w at 0 + get_or w (at + 1) 0))) (block_bad (get_or w (at + 3) 0 * (get_or w at 0 + get_or w (at + 1) 0))) _ _
-        (then_on (word end w any_word) (word_bad end w any_word) _ _
-        (then_on (word end w (below 4)) (word_bad end w (below 4)) _ _
-        (then_on (require true) refl _ _ (then_is (word end w (up_to 8)) (word_bad end w (up_to 8)) (word end w (up_to 8) (good at 0 0)))))))
-
-    step_three : (s : Scan) → step end three s ≡ bad
-    unfolding step
-    step_three bad = refl
-    step_three (good p a b) = by (ltb p end)
-      where
-        by : (c : Bool) → require c bad ≡ bad
-        by true = refl
-        by false = refl
-
-    first : step end fine (good at 0 0) ≡ require (ltb at end) (good (at + 1) 0 0)
-    unfolding step
-    first = refl
-
-    never : (s : Scan) → s ▹ require false ≡ bad
-    never bad = refl
-    never (good p a b) = refl
-
-    pub table_empty : get_or w at 0 + get_or w (at + 1) 0 ≡ 0 → scan_table end w z at ≡ bad
-    unfolding scan_table
-    table_empty e = rw (le-ltb 0 (get_or w at 0 + get_or w (at + 1) 0) (omega arith), never counts)
-
-    -- 8 and 8 are the most
-    counts_bad : 16 < get_or w at 0 + get_or w (at + 1) 0 → counts ≡ bad
-    counts_bad h = by (leb (get_or w at 0) 8) refl
-      where
-        second : 8 < get_or w (at + 1) 0 → (c : Bool) → require c (good (at + 1) 0 0) ▹ word end w (up_to 8) ≡ bad
-        second l true = rw (lt-leb (get_or w (at + 1) 0) 8 l) (step_three (good (at + 1) 0 0))
-        second l false = refl
-
-        by : (b : Bool) → leb (get_or w at 0) 8 ≡ b → counts ≡ bad
-        by true e = rw (e, first) (second (omega (arith, leb-true (get_or w at 0) 8 e)) (ltb at end))
-        by false e = rw (e, step_three (good at 0 0))
-
-    pub table_wide : 16 < get_or w at 0 + get_or w (at + 1) 0 → scan_table end w z at ≡ bad
-    unfolding scan_table
-    table_wide h = rw (counts_bad h)
+  pub table_wide : 16 < get_or w at 0 + get_or w (at + 1) 0 → scan_table end w z at ≡ bad
+  unfolding scan_table
+  table_wide h = rw (counts_bad h)
 
 pub scan_rest : (end : ℕ) (w : List ℕ) (z : Sizes) (kind at : ℕ) → (0 < kind → 5 < kind) → scan end w z kind at ≡ bad
 unfolding scan
 scan_rest end w z zero at h = refl
 scan_rest end w z (suc k) at h = ap (λ (f : ℕ → Scan). f at) (get_or-eq_default (scan_table end w z ∷ scan_counter end w z ∷ scan_rule end w z ∷ scan_batch end w z ∷ scan_prediction end w z ∷ []) (λ (at : ℕ). bad) {n = k} (omega (arith, h (omega arith))))
-
--- ## Sums of words
-
-pub words_fit : (a b : ℕ) → a < 4294967296 → b < 4294967296 → a * b < 18446744073709551616
-words_fit a b h k = omega (arith, mul-le-mul {n₁ = a} {m₁ = b} {n₂ = 4294967295} {m₂ = 4294967295} (omega arith) (omega arith))

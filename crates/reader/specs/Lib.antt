@@ -1,4 +1,3 @@
-pub mod Reading
 pub mod Values
 pub mod Places
 pub mod ScanLaws

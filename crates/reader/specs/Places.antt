@@ -1,6 +1,5 @@
 -- Where a table, one of its rows, and a body stand, as earlier tests have shown it.
-use Rattle.std.specs.Prelude.{ℕ, ◌<◌, ◌≡◌, List}
-use Rattle.std.proofs.Math.Option.{none}
+use Rattle.std.specs.Prelude.{ℕ, ◌<◌, ◌≡◌, List, None}
 use Rattle.model.specs.Basics.{tab}
 use Rattle.model.specs.Book.Contents.{count, contents_refusal}
 use Rattle.model.specs.Book.Scan.{Sizes}
@@ -20,6 +19,6 @@ pub record RowAt (t : TableInfo) (i own : ℕ) : Type 0 where
 
 -- body i of a book whose contents pass
 pub record BodyAt (w : List ℕ) (z : Sizes) (i : ℕ) : Type 0 where
-  pub contents : contents_refusal w ≡ none
+  pub contents : contents_refusal w ≡ None
   pub below : i < count w
   pub is_sizes : z ≡ sizes w

@@ -1,8 +1,7 @@
 -- What the code of all bodies leans on: refusals 3, 6, 4 and 5 of a body from its walk, and the first body that is refused.
 use Prim.Native.Nat.{ℕ, zero, suc, ◌<◌}
-use Rattle.std.specs.Prelude.{◌≡◌, true, false, List, eqb}
+use Rattle.std.specs.Prelude.{◌≡◌, true, false, List, eqb, Option, None, Some}
 use Rattle.std.proofs.Math.Path.{refl, sym}
-use Rattle.std.proofs.Math.Option.{Option, none, some}
 use Rattle.std.proofs.Common.{arith}
 use borrow.Author.Tests.{eq-eqb, ne_eqb}
 use Rattle.model.specs.Basics.{◌else◌, first_some}
@@ -13,9 +12,8 @@ use Rattle.model.specs.Book.Words.{Refusal}
 use Rattle.model.specs.Book.Contents.{count, kind_of, first_of, end_of}
 use Rattle.model.specs.Book.Scan.{bad, good, Sizes, scan, scan_table}
 use Rattle.model.specs.Book.Read.{drew_at, sizes, walk, rows_refusal, body_refusal, bodies_refusal}
-use Rattle.reader.specs.declared.Reading.{Reading}
-use Rattle.reader.specs.declared.Reading.TheVariants.{Pass, Contents, Layout, Absent, Stale, Repeat}
-use Rattle.reader.specs.Reading.{refusal_of}
+use Rattle.refusal.specs.declared.Refusal.{Refusal as Fault}
+use Rattle.refusal.specs.Refusal.{told}
 use Rattle.tables.specs.Tables.{info_at, RowsStand}
 use Rattle.tables.specs.TablesLaws.{stands}
 use Rattle.reader.specs.Places.{BodyAt}
@@ -29,28 +27,28 @@ module _ {w : List ℕ} {z : Sizes} {i : ℕ} (b : BodyAt w z i) where
   pub few : i < 128
   few = omega (arith, b.below, (contents_ok w b.contents).counted.most)
 
-  pub body_bad : bad ≡ walk w i → some (record { number = 3; place = i }) ≡ body_refusal w i
+  pub body_bad : bad ≡ walk w i → Some (record { number = 3; place = i }) ≡ body_refusal w i
   unfolding body_refusal
   body_bad e = rw (← e)
 
   -- a walk that is not bad
   module _ {at p q : ℕ} (e : good at p q ≡ walk w i) where
     abbrev rest : Option Refusal
-    rest = elim (eqb (kind_of w i) 1) [ true ↦ rows_refusal w (first_of w i) | false ↦ none ]
+    rest = elim (eqb (kind_of w i) 1) [ true ↦ rows_refusal w (first_of w i) | false ↦ None ]
 
-    pub body_six : (p ≡ 0 → ⊥) → some (record { number = 6; place = p }) ≡ body_refusal w i
+    pub body_six : (p ≡ 0 → ⊥) → Some (record { number = 6; place = p }) ≡ body_refusal w i
     unfolding body_refusal
     body_six h = rw (← e) (by p h)
       where
-        by : (p : ℕ) → (p ≡ 0 → ⊥) → some (record { number = 6; place = p }) ≡ (drew_at 6 p else λ _. drew_at 4 q else λ _. rest)
+        by : (p : ℕ) → (p ≡ 0 → ⊥) → Some (record { number = 6; place = p }) ≡ (drew_at 6 p else λ _. drew_at 4 q else λ _. rest)
         by zero h = absurd (h refl)
         by (suc p) h = refl
 
-    pub body_four : p ≡ 0 → (q ≡ 0 → ⊥) → some (record { number = 4; place = q }) ≡ body_refusal w i
+    pub body_four : p ≡ 0 → (q ≡ 0 → ⊥) → Some (record { number = 4; place = q }) ≡ body_refusal w i
     unfolding body_refusal
     body_four zp h = rw (← e, zp) (by q h)
       where
-        by : (q : ℕ) → (q ≡ 0 → ⊥) → some (record { number = 4; place = q }) ≡ (drew_at 4 q else λ _. rest)
+        by : (q : ℕ) → (q ≡ 0 → ⊥) → Some (record { number = 4; place = q }) ≡ (drew_at 4 q else λ _. rest)
         by zero h = absurd (h refl)
         by (suc q) h = refl
 
@@ -58,7 +56,7 @@ module _ {w : List ℕ} {z : Sizes} {i : ℕ} (b : BodyAt w z i) where
     unfolding body_refusal
     body_rows r zp zq k h = rw (← e, zp, zq, eq-eqb (kind_of w i) 1 k) h
 
-    pub body_pass : p ≡ 0 → q ≡ 0 → (kind_of w i ≡ 1 → ⊥) → none ≡ body_refusal w i
+    pub body_pass : p ≡ 0 → q ≡ 0 → (kind_of w i ≡ 1 → ⊥) → None ≡ body_refusal w i
     unfolding body_refusal
     body_pass zp zq k = rw (← e, zp, zq, ne_eqb (kind_of w i) 1 k)
 
@@ -72,21 +70,10 @@ module _ {w : List ℕ} {z : Sizes} {i : ℕ} (b : BodyAt w z i) where
 -- ## All bodies
 
 module _ (w : List ℕ) where
-  pub bodies_refused : (r : Reading) (i : ℕ) → (r ≡ Pass → ⊥) → i < count w → ((j : ℕ) → j < i → none ≡ body_refusal w j) → refusal_of r ≡ body_refusal w i → refusal_of r ≡ bodies_refusal w
+  pub bodies_refused : (e : Fault) (i : ℕ) → i < count w → ((j : ℕ) → j < i → None ≡ body_refusal w j) → Some (told e) ≡ body_refusal w i → Some (told e) ≡ bodies_refusal w
   unfolding bodies_refusal
-  bodies_refused r i h l before here = by r h here
-    where
-      first : (a : Refusal) → some a ≡ body_refusal w i → some a ≡ first_some (body_refusal w) (count w)
-      first a e = sym (some_first_some (body_refusal w) (count w) a (record { index = i; below = l; here = sym e; before = λ j l. sym (before j l) }))
+  bodies_refused e i l before here = sym (some_first_some (body_refusal w) (count w) (told e) (record { index = i; below = l; here = sym here; before = λ j l. sym (before j l) }))
 
-      by : (r : Reading) → (r ≡ Pass → ⊥) → refusal_of r ≡ body_refusal w i → refusal_of r ≡ first_some (body_refusal w) (count w)
-      by Pass h e = absurd (h refl)
-      by (Contents p) h e = first _ e
-      by (Layout p) h e = first _ e
-      by (Absent p) h e = first _ e
-      by (Stale p) h e = first _ e
-      by (Repeat p) h e = first _ e
-
-  pub bodies_pass : ((j : ℕ) → j < count w → none ≡ body_refusal w j) → none ≡ bodies_refusal w
+  pub bodies_pass : ((j : ℕ) → j < count w → None ≡ body_refusal w j) → None ≡ bodies_refusal w
   unfolding bodies_refusal
   bodies_pass all = sym (none_first_some (body_refusal w) (count w) (λ j l. sym (all j l)))

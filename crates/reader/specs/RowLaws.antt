@@ -1,9 +1,8 @@
 -- What the code of repeated keys leans on: refusal 5 from the first rows that have each row's key.
-use Rattle.std.specs.Prelude.{ℕ, ◌+◌, ◌-◌, ◌*◌, ◌<◌, ◌≤◌, ◌≡◌, refl, ◌≢◌, Bool, true, false, List, [], ltb, length, get_or, take, drop, replicate}
+use Rattle.std.specs.Prelude.{ℕ, ◌+◌, ◌-◌, ◌*◌, ◌<◌, ◌≤◌, ◌≡◌, refl, ◌≢◌, Bool, true, false, List, [], ltb, length, get_or, take, drop, replicate, Option, None, Some}
 use Rattle.std.proofs.Math.Path.{sym}
 use Rattle.std.proofs.Common.{ap, ◌∙◌, subst, mul-le-mul_right, arith, take-take, lt-ltb, le-ltb}
 use Rattle.std.proofs.Math.Bool.{true≢false}
-use Rattle.std.proofs.Math.Option.{Option, none, some}
 use Rattle.std.proofs.Math.Decide.{dec_lt}
 use Rattle.std.proofs.Math.Nat.{add-sub_cancel_left}
 use Rattle.model.specs.Laws.Logic.{eq_list_eq, eq_eq_list}
@@ -15,7 +14,6 @@ use Rattle.model.specs.Book.Decode.{part, read_table}
 use Rattle.model.specs.Book.Read.{is_repeat, rows_refusal}
 use Rattle.words.specs.Filled.{filled}
 use Rattle.tables.specs.declared.TableInfo.{TableInfo}
-use Rattle.tables.specs.declared.Found.TheVariants.{At, Nothing}
 use Rattle.tables.specs.Tables.{info_at, front, same_words, row_at, found_row, RowsStand}
 use Rattle.tables.specs.TablesLaws.{key_part, row_within, found_first, missing_all}
 use Rattle.reader.specs.Places.{rows_of, RowAt}
@@ -83,7 +81,7 @@ module _ {w : List ℕ} {t : TableInfo} (ok : RowsStand w t) where
     unfolding same_words
     has_no j e q = true≢false (sym (eq_eq_list (key_at j) (front key t.keys) (q ∙ sym its_key)) ∙ e)
 
-    pub repeat_at : (p : ℕ) → found_row w t key ≡ At p → ltb p own ≡ repeats i r.below
+    pub repeat_at : (p : ℕ) → found_row w t key ≡ Some p → ltb p own ≡ repeats i r.below
     repeat_at p e =
         let f = found_first w t key p e in
         elim (dec_lt p own) [
@@ -91,7 +89,7 @@ module _ {w : List ℕ} {t : TableInfo} (ok : RowsStand w t) where
           | no l ↦ le-ltb p own (omega arith) ∙ sym (repeated_no i r.below (λ j m. has_no j (f.2.before j (omega (arith, from_row f.0 i (omega (arith, f.1, r.is_own)))))))
         ]
 
-    pub repeat_nothing : found_row w t key ≡ Nothing → false ≡ repeats i r.below
+    pub repeat_nothing : found_row w t key ≡ None → false ≡ repeats i r.below
     repeat_nothing e = sym (repeated_no i r.below (λ j m. has_no j (missing_all w t key e j (omega (arith, r.below)))))
 
 -- ## All rows
@@ -106,11 +104,11 @@ module _ (w : List ℕ) (at : ℕ) where
   rows_count : length (rows_of w T) ≡ T.rows
   rows_count = length_tab (λ i. part w (row_at T i) T.width) T.rows
 
-  first_row : (i : ℕ) → i < T.rows → ((j : ℕ) → j < i → false ≡ repeat_in j) → true ≡ repeat_in i → some (record { number = 5; place = row_at T i }) ≡ rows_refusal w at
+  first_row : (i : ℕ) → i < T.rows → ((j : ℕ) → j < i → false ≡ repeat_in j) → true ≡ repeat_in i → Some (record { number = 5; place = row_at T i }) ≡ rows_refusal w at
   unfolding read_table
   first_row i h before here = rw (some_least repeat_in (length (rows_of w T)) i (record { below = omega (arith, rows_count); here = sym here; before = λ j l. sym (before j l) }))
 
-  no_row : ((j : ℕ) → j < T.rows → false ≡ repeat_in j) → none ≡ rows_refusal w at
+  no_row : ((j : ℕ) → j < T.rows → false ≡ repeat_in j) → None ≡ rows_refusal w at
   unfolding read_table
   no_row all = rw (none_least repeat_in (length (rows_of w T)) (λ j l. sym (all j (omega (arith, rows_count)))))
 
@@ -122,8 +120,8 @@ module _ (w : List ℕ) (t : TableInfo) (at : ℕ) (e : t ≡ info_at w at) wher
   abbrev Refused : Option Refusal → Type 0
   Refused r = r ≡ rows_refusal w at
 
-  pub refuse_row : (i p : ℕ) → RowAt t i p → Free t i → true ≡ is_repeat t.keys (rows_of w t) i → Refused (some (record { number = 5; place = p }))
-  refuse_row i p r = subst (λ (t : TableInfo). RowAt t i p → Free t i → true ≡ is_repeat t.keys (rows_of w t) i → Refused (some (record { number = 5; place = p }))) (sym e) (λ r before here. ap (λ (p : ℕ). some (record { number = 5; place = p })) r.is_own ∙ first_row w at i r.below before here) r
+  pub refuse_row : (i p : ℕ) → RowAt t i p → Free t i → true ≡ is_repeat t.keys (rows_of w t) i → Refused (Some (record { number = 5; place = p }))
+  refuse_row i p r = subst (λ (t : TableInfo). RowAt t i p → Free t i → true ≡ is_repeat t.keys (rows_of w t) i → Refused (Some (record { number = 5; place = p }))) (sym e) (λ r before here. ap (λ (p : ℕ). Some (record { number = 5; place = p })) r.is_own ∙ first_row w at i r.below before here) r
 
-  pub pass_rows : Free t t.rows → Refused none
-  pass_rows = subst (λ (t : TableInfo). Free t t.rows → Refused none) (sym e) (no_row w at)
+  pub pass_rows : Free t t.rows → Refused None
+  pass_rows = subst (λ (t : TableInfo). Free t t.rows → Refused None) (sym e) (no_row w at)

@@ -1,22 +1,24 @@
 -- The code's values as the model's.
-use Rattle.std.specs.Prelude.{ℕ, List}
+use Rattle.std.specs.Prelude.{ℕ, ◌≡◌, List, Option, None, Some, Result, Ok, Err}
 use Rattle.model.specs.Basics.{found}
 use Rattle.model.specs.Book.Scan as spec
 use Rattle.contents.specs.declared.Contents.{Contents}
-use Rattle.reader.specs.declared.scan.Draw.{Draw}
-use Rattle.reader.specs.declared.scan.Draw.TheVariants.{Fine, Layout, Absent, Stale}
+use Rattle.reader.specs.declared.scan.Fault.{Fault}
+use Rattle.reader.specs.declared.scan.Fault.TheVariants.{Layout, Absent, Stale}
 use Rattle.reader.specs.declared.scan.Test.{Test}
 use Rattle.reader.specs.declared.scan.Test.TheVariants.{Any, Clean, Below, UpTo, Range}
-use Rattle.reader.specs.declared.scan.Scan.{Scan}
-use Rattle.reader.specs.declared.scan.Scan.TheVariants.{Bad, Good}
+use Rattle.reader.specs.declared.scan.Walk.{Walk}
 use Rattle.instr.specs.declared.layout.Field.{Field}
 use Rattle.instr.specs.Fields.{field_of}
 
-abbrev pub draw_of : Draw → spec.Draw
-draw_of Fine = spec.fine
-draw_of Layout = spec.three
-draw_of Absent = spec.six
-draw_of Stale = spec.four
+abbrev pub fault_of : Fault → spec.Draw
+fault_of Layout = spec.three
+fault_of Absent = spec.six
+fault_of Stale = spec.four
+
+abbrev pub draw_of : Result (Unit {0}) Fault → spec.Draw
+draw_of (Ok x) = spec.fine
+draw_of (Err f) = fault_of f
 
 abbrev pub test_of : Test → ℕ → spec.Draw
 test_of Any = spec.any_word
@@ -25,9 +27,17 @@ test_of (Below n) = spec.below n
 test_of (UpTo n) = spec.up_to n
 test_of (Range a b) = spec.tag a b
 
-abbrev pub scan_of : Scan → spec.Scan
-scan_of Bad = spec.bad
-scan_of (Good at p q) = spec.good at p q
+abbrev pub walk_of : Walk → spec.Scan
+walk_of w = spec.good w.at w.absent w.stale
+
+abbrev pub scan_of : Option Walk → spec.Scan
+scan_of None = spec.bad
+scan_of (Some w) = walk_of w
+
+-- the calls of a step are a piece of the model's walk
+pub record IsStep (post : Walk → Option Walk → Type 0) (one : spec.Scan → spec.Scan) : Type 0 where
+  pub bad : one spec.bad ≡ spec.bad
+  pub call : (w : Walk) (r : Option Walk) → post w r → scan_of r ≡ one (walk_of w)
 
 abbrev pub sizes_of : Contents → spec.Sizes
 sizes_of z = record { tables = z.tables; counters = z.counters; rules = z.rules }

@@ -1,169 +1,141 @@
-// The five kinds of bodies. A walk begins at the body's first word, `at`, and has to come out at its end.
-ghost use Rattle.std.specs.Prelude.{◌≡◌, ◌^◌, ◌<◌};
-ghost use Rattle.model.specs.Basics.{iter};
+// The five kinds of bodies. A walk begins at the body's first word, and has to come out at its end.
+ghost use Rattle.std.specs.Prelude.{◌≡◌, ◌<◌};
 ghost use Rattle.model.specs.Book.Read as read;
 ghost use Rattle.model.specs.Book.Scan as spec;
-ghost use Rattle.reader.specs.Values.{scan_of, sizes_of};
+ghost use Rattle.reader.specs.Values.{scan_of, walk_of, sizes_of};
 
-use crate::scan::{Scan, Test};
-use crate::{instructions, scan};
+use crate::scan;
+use crate::scan::{Body, Test, Walk};
 use contents::Contents;
 
-// A walk that begins at the word `at`.
-fn start(at: usize) -> Scan
-    ensures { scan_of result ≡ spec.good at 0 0 }
-{
-    Scan::Good {
-        at,
-        absent: 0,
-        stale: 0,
+impl<'a> Body<'a> {
+    // The body ends here.
+    fn finish(self, walk: Walk) -> Option<Walk>
+        ensures { scan_of result ≡ spec.finish self.entry.end (walk_of walk) }
+    {
+        self.left(0, walk)
     }
-}
 
-// The body ends here.
-fn finish(end: usize, s: Scan) -> Scan
-    ensures { scan_of result ≡ spec.finish end (scan_of s) }
-{
-    left(end, 0, s)
-}
+    // The body ends n words further on.
+    #[tactic(auto, unfolding(model::specs::Book::Scan::left))]
+    fn left(self, n: usize, walk: Walk) -> Option<Walk>
+        ensures { scan_of result ≡ spec.left self.entry.end n (walk_of walk) }
+    {
+        if self.end.checked_sub(walk.at)? == n {
+            Some(walk)
+        } else {
+            None
+        }
+    }
 
-// The body ends n words further on.
-fn left(end: usize, n: usize, s: Scan) -> Scan
-    ensures { scan_of result ≡ spec.left end n (scan_of s) }
-{
-    match s {
-        Scan::Bad => Scan::Bad,
-        Scan::Good { at, .. } => {
-            if end < at {
-                return Scan::Bad;
-            }
-            if end - at == n { s } else { Scan::Bad }
+    // n clean words, and the body ends. Where it does not end there, n may be any number.
+    fn block(self, n: usize, walk: Walk) -> Option<Walk>
+        ensures { scan_of result ≡ spec.block self.entry.end self.entry.words.now n (walk_of walk) }
+    {
+        let walk = self.left(n, walk)?;
+        scan::steps(n, |walk| self.word(Test::Clean, walk), walk)
+    }
+
+    // A count, 16 at most, and as many clean words.
+    fn values(self, walk: Walk) -> Option<Walk>
+        ensures { scan_of result ≡ spec.list self.entry.end self.entry.words.now 16
+            (spec.word self.entry.end self.entry.words.now spec.clean) (walk_of walk) }
+    {
+        self.list(16, |walk| self.word(Test::Clean, walk), walk)
+    }
+
+    // Key count, value count, merge rule, row count, rows. A row of no words or of more than 16 is refused at once: so the words of all rows can be counted.
+    #[tactic(auto, unfolding(model::specs::Book::Scan::scan_table))]
+    fn table(self) -> Option<Walk>
+        ensures { scan_of result ≡ spec.scan_table self.entry.end self.entry.words.now (sizes_of self.entry.sizes) self.entry.first }
+    {
+        let keys = words::size_at(self.words, self.first);
+        let vals = words::size_at(self.words, self.first + 1);
+        let rows = words::size_at(self.words, self.first + 3);
+        let width = keys + vals;
+        if width == 0 || 16 < width {
+            return None;
+        }
+        let walk = self.word(Test::UpTo(8), self.start())?;
+        let walk = self.word(Test::UpTo(8), walk)?;
+        let walk = self.word(Test::Below(4), walk)?;
+        let walk = self.word(Test::Any, walk)?;
+        self.block(rows * width, walk)
+    }
+
+    // A counter's next number.
+    #[tactic(auto, unfolding(model::specs::Book::Scan::scan_counter))]
+    fn counter(self) -> Option<Walk>
+        ensures { scan_of result ≡ spec.scan_counter self.entry.end self.entry.words.now (sizes_of self.entry.sizes) self.entry.first }
+    {
+        let walk = self.word(Test::Clean, self.start())?;
+        self.finish(walk)
+    }
+
+    // Starting variables, instruction count, instructions.
+    #[tactic(auto, unfolding(model::specs::Book::Scan::scan_rule))]
+    fn rule(self) -> Option<Walk>
+        ensures { scan_of result ≡ spec.scan_rule self.entry.end self.entry.words.now (sizes_of self.entry.sizes) self.entry.first }
+    {
+        let walk = self.word(Test::UpTo(32), self.start())?;
+        let walk = self.instrs(walk)?;
+        self.finish(walk)
+    }
+
+    // The rule, how many lanes and variables there are, and a column for each variable.
+    #[tactic(auto, unfolding(model::specs::Book::Scan::scan_batch))]
+    fn batch(self) -> Option<Walk>
+        ensures { scan_of result ≡ spec.scan_batch self.entry.end self.entry.words.now (sizes_of self.entry.sizes) self.entry.first }
+    {
+        let lanes = words::size_at(self.words, self.first + 1);
+        let columns = words::size_at(self.words, self.first + 2);
+        let walk = self.word(Test::Below(self.sizes.rules), self.start())?;
+        let walk = self.word(Test::UpTo(256), walk)?;
+        let walk = self.word(Test::UpTo(32), walk)?;
+        self.block(columns * lanes, walk)
+    }
+
+    // The table, the words of a key, and write values, which are constants or counters; a count comes before each list.
+    #[tactic(auto, unfolding(model::specs::Book::Scan::scan_prediction, model::specs::Book::Scan::field))]
+    fn prediction(self) -> Option<Walk>
+        ensures { scan_of result ≡ spec.scan_prediction self.entry.end self.entry.words.now (sizes_of self.entry.sizes)
+            self.entry.first }
+    {
+        let walk = self.word(Test::Below(self.sizes.tables), self.start())?;
+        let walk = self.values(walk)?;
+        let walk = self.pairs(1, 2, walk)?;
+        self.finish(walk)
+    }
+
+    // A body by its kind.
+    #[tactic(auto, using(crate::specs::BodyLaws::scan_rest), unfolding(model::specs::Book::Scan::scan))]
+    fn by_kind(self, kind: u32) -> Option<Walk>
+        ensures { scan_of result ≡ spec.scan self.entry.end self.entry.words.now (sizes_of self.entry.sizes) kind self.entry.first }
+    {
+        match kind {
+            1 => self.table(),
+            2 => self.counter(),
+            3 => self.rule(),
+            4 => self.batch(),
+            5 => self.prediction(),
+            _ => None,
         }
     }
 }
 
-// n clean words.
-fn cleans(end: usize, words: &[u32], n: usize, s: Scan) -> Scan
-    ensures { scan_of result ≡ iter (λ _. spec.word end words.now spec.clean) n (scan_of s) }
-{
-    let mut t = s;
-    let mut i = 0;
-    while i < n {
-        t = scan::word(end, words, Test::Clean, t);
-        i += 1;
-    }
-    t
-}
-
-// n clean words, and the body ends.
-fn block(end: usize, words: &[u32], n: usize, s: Scan) -> Scan
-    ensures { scan_of result ≡ spec.block end words.now n (scan_of s) }
-{
-    let t = left(end, n, s);
-    // Where the body does not end there, n may be any number.
-    if let Scan::Bad = t {
-        return Scan::Bad;
-    }
-    cleans(end, words, n, t)
-}
-
-// A count, 16 at most, and as many clean words.
-fn values(end: usize, words: &[u32], s: Scan) -> Scan
-    ensures { scan_of result ≡ spec.list end words.now 16 (spec.word end words.now spec.clean) (scan_of s) }
-{
-    let n = words::size(scan::peek(words, s));
-    let t = scan::word(end, words, Test::UpTo(16), s);
-    // A count that is refused may be any number.
-    if let Scan::Bad = t {
-        return Scan::Bad;
-    }
-    cleans(end, words, n, t)
-}
-
-// Key count, value count, merge rule, row count, rows. A row of no words or of more than 16 is refused at once: so the words of all rows can be counted.
-fn table(end: usize, words: &[u32], at: usize) -> Scan
-    requires { at < 2 ^ 32 }
-    ensures { (z : spec.Sizes) → scan_of result ≡ spec.scan_table end words.now z at }
-{
-    let keys = words::size_at(words, at);
-    let vals = words::size_at(words, at + 1);
-    let rows = words::size_at(words, at + 3);
-    let width = keys + vals;
-    if width == 0 {
-        return Scan::Bad;
-    }
-    if 16 < width {
-        return Scan::Bad;
-    }
-    let s = scan::word(end, words, Test::UpTo(8), start(at));
-    let t = scan::word(end, words, Test::UpTo(8), s);
-    let u = scan::word(end, words, Test::Below(4), t);
-    let v = scan::word(end, words, Test::Any, u);
-    block(end, words, rows * width, v)
-}
-
-// A counter's next number.
-fn counter(end: usize, words: &[u32], at: usize) -> Scan
-    ensures { (z : spec.Sizes) → scan_of result ≡ spec.scan_counter end words.now z at }
-{
-    let s = scan::word(end, words, Test::Clean, start(at));
-    finish(end, s)
-}
-
-// Starting variables, instruction count, instructions.
-fn rule(end: usize, words: &[u32], sizes: Contents, at: usize) -> Scan
-    ensures { scan_of result ≡ spec.scan_rule end words.now (sizes_of sizes) at }
-{
-    let s = scan::word(end, words, Test::UpTo(32), start(at));
-    let t = instructions::instrs(end, words, sizes, s);
-    finish(end, t)
-}
-
-// The rule, how many lanes and variables there are, and a column for each variable.
-fn batch(end: usize, words: &[u32], sizes: Contents, at: usize) -> Scan
-    requires { at < 2 ^ 32 }
-    ensures { scan_of result ≡ spec.scan_batch end words.now (sizes_of sizes) at }
-{
-    let lanes = words::size_at(words, at + 1);
-    let columns = words::size_at(words, at + 2);
-    let s = scan::word(end, words, Test::Below(sizes.rules), start(at));
-    let t = scan::word(end, words, Test::UpTo(256), s);
-    let u = scan::word(end, words, Test::UpTo(32), t);
-    block(end, words, columns * lanes, u)
-}
-
-// The table, the words of a key, and write values, which are constants or counters; a count comes before each list.
-fn prediction(end: usize, words: &[u32], sizes: Contents, at: usize) -> Scan
-    ensures { scan_of result ≡ spec.scan_prediction end words.now (sizes_of sizes) at }
-{
-    let s = scan::word(end, words, Test::Below(sizes.tables), start(at));
-    let t = values(end, words, s);
-    let u = instructions::pairs(end, words, sizes, 1, 2, t);
-    finish(end, u)
-}
-
-// A body by its kind.
-fn by_kind(end: usize, words: &[u32], sizes: Contents, kind: u32, at: usize) -> Scan
-    requires { at < 2 ^ 32 }
-    ensures { scan_of result ≡ spec.scan end words.now (sizes_of sizes) kind at }
-{
-    match kind {
-        1 => table(end, words, at),
-        2 => counter(end, words, at),
-        3 => rule(end, words, sizes, at),
-        4 => batch(end, words, sizes, at),
-        5 => prediction(end, words, sizes, at),
-        _ => Scan::Bad,
-    }
-}
-
-// Body i.
-pub fn walk(words: &[u32], sizes: Contents, i: usize) -> Scan
+// The walk over body i.
+pub fn past_body(words: &[u32], sizes: Contents, i: usize) -> Option<Walk>
     requires { (i < 128) × (sizes_of sizes ≡ read.sizes words.now) }
     ensures { scan_of result ≡ read.walk words.now i }
 {
     let kind = contents::kind_of(words, i);
     let first = contents::first_of(words, i);
     let end = contents::end_of(words, i);
-    by_kind(end, words, sizes, kind, first)
+    Body {
+        words,
+        sizes,
+        first,
+        end,
+    }
+    .by_kind(kind)
 }

@@ -1,10 +1,9 @@
 // Entries, fields and instructions.
 ghost use Rattle.std.specs.Prelude.{◌≡◌};
 ghost use Rattle.model.specs.Book.Scan as spec;
-ghost use Rattle.reader.specs.Values.{test_of, scan_of, sizes_of, walk_field};
+ghost use Rattle.reader.specs.Values.{test_of, scan_of, walk_of, sizes_of, walk_field};
 
-use crate::scan;
-use crate::scan::{Scan, Test};
+use crate::scan::{Body, Test, Walk};
 use contents::Contents;
 use instr::layout;
 use instr::layout::Field;
@@ -21,81 +20,64 @@ fn tagged(sizes: Contents, tag: u32) -> Test
     }
 }
 
-// An entry or write value, whose tag is one from `from` to `to`.
-fn pair(end: usize, words: &[u32], sizes: Contents, from: u32, to: u32, s: Scan) -> Scan
-    ensures { scan_of result ≡ spec.pair end words.now (sizes_of sizes) from to (scan_of s) }
-{
-    let tag = scan::peek(words, s);
-    let t = scan::word(end, words, Test::Range(from, to), s);
-    scan::word(end, words, tagged(sizes, tag), t)
-}
+impl<'a> Body<'a> {
+    // An entry or write value, whose tag is one from `from` to `to`.
+    #[tactic(auto, unfolding(model::specs::Book::Scan::pair))]
+    fn pair(self, from: u32, to: u32, walk: Walk) -> Option<Walk>
+        ensures { scan_of result ≡ spec.pair self.entry.end self.entry.words.now (sizes_of self.entry.sizes) from to
+            (walk_of walk) }
+    {
+        let tag = self.peek(walk);
+        let walk = self.word(Test::Range(from, to), walk)?;
+        self.word(tagged(self.sizes, tag), walk)
+    }
 
-// A count, 16 at most, and as many entries or write values.
-pub fn pairs(end: usize, words: &[u32], sizes: Contents, from: u32, to: u32, s: Scan) -> Scan
-    ensures { scan_of result ≡ spec.list end words.now 16 (spec.pair end words.now (sizes_of sizes) from to)
-        (scan_of s) }
-{
-    let n = scan::peek(words, s);
-    let mut t = scan::word(end, words, Test::UpTo(16), s);
-    // A count that is refused may be any number.
-    if let Scan::Bad = t {
-        return Scan::Bad;
+    // A count, 16 at most, and as many entries or write values.
+    pub fn pairs(self, from: u32, to: u32, walk: Walk) -> Option<Walk>
+        ensures { scan_of result ≡ spec.list self.entry.end self.entry.words.now 16
+            (spec.pair self.entry.end self.entry.words.now (sizes_of self.entry.sizes) from to) (walk_of walk) }
+    {
+        self.list(16, |walk| self.pair(from, to, walk), walk)
     }
-    let mut i: u32 = 0;
-    while i < n {
-        t = pair(end, words, sizes, from, to, t);
-        i += 1;
-    }
-    t
-}
 
-// Past a field.
-fn walk_field(end: usize, words: &[u32], sizes: Contents, f: Field, s: Scan) -> Scan
-    ensures { scan_of result ≡ walk_field end words.now (sizes_of sizes) f (scan_of s) }
-{
-    match f {
-        Field::Nothing => s,
-        Field::Table => scan::word(end, words, Test::Below(sizes.tables), s),
-        Field::Counter => scan::word(end, words, Test::Below(sizes.counters), s),
-        Field::Function => scan::word(end, words, Test::Below(8), s),
-        Field::Dst => scan::word(end, words, Test::Below(32), s),
-        Field::Column => scan::word(end, words, Test::Any, s),
-        Field::Divider => scan::word(end, words, Test::Any, s),
-        Field::Entry => pair(end, words, sizes, 0, 1, s),
-        Field::Entries => pairs(end, words, sizes, 0, 1, s),
-        Field::Writes => pairs(end, words, sizes, 0, 3, s),
+    // Past a field.
+    #[tactic(auto, unfolding(model::specs::Book::Scan::field))]
+    fn field(self, field: Field, walk: Walk) -> Option<Walk>
+        ensures { scan_of result ≡ walk_field self.entry.end self.entry.words.now (sizes_of self.entry.sizes) field
+            (walk_of walk) }
+    {
+        match field {
+            Field::Nothing => Some(walk),
+            Field::Table => self.word(Test::Below(self.sizes.tables), walk),
+            Field::Counter => self.word(Test::Below(self.sizes.counters), walk),
+            Field::Function => self.word(Test::Below(8), walk),
+            Field::Dst => self.word(Test::Below(32), walk),
+            Field::Column | Field::Divider => self.word(Test::Any, walk),
+            Field::Entry => self.pair(0, 1, walk),
+            Field::Entries => self.pairs(0, 1, walk),
+            Field::Writes => self.pairs(0, 3, walk),
+        }
     }
-}
 
-// One instruction.
-fn instr(end: usize, words: &[u32], sizes: Contents, s: Scan) -> Scan
-    ensures { scan_of result ≡ spec.instr end words.now (sizes_of sizes) (scan_of s) }
-{
-    let fs = layout::fields(scan::peek(words, s));
-    let mut t = scan::word(end, words, Test::Range(1, 13), s);
-    let mut k = 0;
-    while k < 6 {
-        let f = fs[k];
-        t = walk_field(end, words, sizes, f, t);
-        k += 1;
+    // One instruction.
+    #[tactic(auto, unfolding(model::specs::Book::Scan::instr, model::specs::Book::Scan::walk))]
+    fn instr(self, walk: Walk) -> Option<Walk>
+        ensures { scan_of result ≡ spec.instr self.entry.end self.entry.words.now (sizes_of self.entry.sizes)
+            (walk_of walk) }
+    {
+        let fields = layout::fields(self.peek(walk));
+        let mut walk = self.word(Test::Range(1, 13), walk)?;
+        for field in &fields {
+            walk = self.field(*field, walk)?;
+        }
+        Some(walk)
     }
-    t
-}
 
-// A count, 64 at most, and as many instructions.
-pub fn instrs(end: usize, words: &[u32], sizes: Contents, s: Scan) -> Scan
-    ensures { scan_of result ≡ spec.list end words.now 64 (spec.instr end words.now (sizes_of sizes)) (scan_of s) }
-{
-    let n = scan::peek(words, s);
-    let mut t = scan::word(end, words, Test::UpTo(64), s);
-    // A count that is refused may be any number.
-    if let Scan::Bad = t {
-        return Scan::Bad;
+    // A count, 64 at most, and as many instructions.
+    pub fn instrs(self, walk: Walk) -> Option<Walk>
+        ensures { scan_of result ≡ spec.list self.entry.end self.entry.words.now 64
+            (spec.instr self.entry.end self.entry.words.now (sizes_of self.entry.sizes)) (walk_of walk) }
+    {
+        self.list(64, |walk| self.instr(walk), walk)
     }
-    let mut i: u32 = 0;
-    while i < n {
-        t = instr(end, words, sizes, t);
-        i += 1;
-    }
-    t
 }

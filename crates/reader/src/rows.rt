@@ -3,11 +3,11 @@ ghost use Rattle.std.specs.Prelude.{◌≡◌, ℕ, ◌+◌, ◌≤◌, length};
 ghost use Rattle.model.specs.Book.Read.{is_repeat, rows_refusal};
 ghost use Rattle.tables.specs.Tables.{info_at, RowsStand};
 ghost use Rattle.hash_index.specs.Index.{IndexOf};
-ghost use Rattle.reader.specs.Reading.{refusal_of};
+ghost use Rattle.refusal.specs.Refusal.{refusal_of};
 ghost use Rattle.reader.specs.Places.{rows_of, RowAt};
 
-use crate::Reading;
-use tables::{Found, TableInfo};
+use refusal::Refusal;
+use tables::TableInfo;
 
 // Whether the row that begins at `own` has the key of an earlier row.
 fn is_repeat(words: &[u32], index: &[u32], info: TableInfo, own: usize) -> bool
@@ -17,32 +17,27 @@ fn is_repeat(words: &[u32], index: &[u32], info: TableInfo, own: usize) -> bool
     let width = info.width;
     let key = tables::key_of(&words[own..own + width], info.keys);
     match hash_index::look_up(words, index, info, &key) {
-        Found::At(p) => p < own,
-        Found::Nothing => false,
+        Some(p) => p < own,
+        None => false,
     }
 }
 
 // The first row of a table that repeats a key, by the table's index or by none.
-fn first_repeat(words: &[u32], index: &[u32], info: TableInfo) -> Reading
+fn first_repeat(words: &[u32], index: &[u32], info: TableInfo) -> Result<(), Refusal>
     requires { RowsStand words.now info × IndexOf words.now info index.now }
     ensures { (at : ℕ) → info ≡ info_at words.now at → refusal_of result ≡ rows_refusal words.now at }
 {
-    let width = info.width;
-    let rows = info.rows;
-    let mut own = info.at;
-    let mut i = 0;
-    while i < rows {
+    for i in 0..info.rows {
+        let own = info.at + i * info.width;
         if is_repeat(words, index, info, own) {
-            return Reading::Repeat(own);
+            return Err(Refusal::Repeat(own));
         }
-        own += width;
-        i += 1;
     }
-    Reading::Pass
+    Ok(())
 }
 
 // The same, by an index that is made for it.
-fn first_indexed(words: &[u32], info: TableInfo) -> Reading
+fn first_indexed(words: &[u32], info: TableInfo) -> Result<(), Refusal>
     requires { RowsStand words.now info × (info.rows ≤ 16384) }
     ensures { (at : ℕ) → info ≡ info_at words.now at → refusal_of result ≡ rows_refusal words.now at }
 {
@@ -52,7 +47,7 @@ fn first_indexed(words: &[u32], info: TableInfo) -> Reading
 }
 
 // Refusal 5 of the table at `at`.
-pub fn repeated(words: &[u32], at: usize) -> Reading
+pub fn repeated(words: &[u32], at: usize) -> Result<(), Refusal>
     requires { RowsStand words.now (info_at words.now at) }
     ensures { refusal_of result ≡ rows_refusal words.now at }
 {

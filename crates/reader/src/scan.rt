@@ -1,14 +1,15 @@
 // One walk over a body, word by word: refusals 3, 6 and 4.
-ghost use Rattle.std.specs.Prelude.{◌≡◌, ◌+◌};
+ghost use Rattle.std.specs.Prelude.{◌≡◌, ◌+◌, ◌^◌, ◌<◌, cond};
+ghost use Rattle.model.specs.Basics.{iter};
 ghost use Rattle.model.specs.Book.Scan as spec;
-ghost use Rattle.reader.specs.Values.{draw_of, test_of, scan_of};
+ghost use Rattle.reader.specs.Values.{draw_of, fault_of, test_of, walk_of, scan_of, IsStep};
 
+use contents::Contents;
 use ids::STALE;
 
-// What a word draws: nothing, 3, 6 or 4.
+// What a word draws that does not pass: 3, 6 or 4.
 #[derive(Clone, Copy)]
-enum Draw {
-    Fine,
+enum Fault {
     Layout,
     Absent,
     Stale,
@@ -24,32 +25,41 @@ pub enum Test {
     Range(u32, u32),
 }
 
-// A walk that drew 3; or the word that it stands at, with the first words that drew 6 and 4. There 0 is none, since no body has word 0 of the book.
+// The word that a walk stands at, with the first words that drew 6 and 4. There 0 is none, since no body has word 0 of the book. A walk that draws 3 ends, and is `None`.
 #[derive(Clone, Copy)]
-pub enum Scan {
-    Bad,
-    Good {
-        at: usize,
-        absent: usize,
-        stale: usize,
-    },
+pub struct Walk {
+    pub at: usize,
+    pub absent: usize,
+    pub stale: usize,
+}
+
+// A body that is walked over: its book, how many of each the book has, the body's first word, and the word past it.
+#[derive(Clone, Copy)]
+pub struct Body<'a> {
+    pub words: &'a [u32],
+    pub sizes: Contents,
+    pub first: usize,
+    pub end: usize,
+    ghost near: { first < 2 ^ 32 },
+}
+
+// Nothing, or a fault where a test does not pass.
+fn require(passes: bool, fault: Fault) -> Result<(), Fault>
+    ensures { draw_of result ≡ cond passes spec.fine (fault_of fault) }
+{
+    if passes { Ok(()) } else { Err(fault) }
 }
 
 // What a word draws by a test.
-fn drawn(test: Test, x: u32) -> Draw
+fn drawn(test: Test, x: u32) -> Result<(), Fault>
     ensures { draw_of result ≡ test_of test x }
 {
     match test {
-        Test::Any => Draw::Fine,
-        Test::Clean => { if x == STALE { Draw::Stale } else { Draw::Fine } }
-        Test::Below(n) => { if x < n { Draw::Fine } else { Draw::Absent } }
-        Test::UpTo(n) => { if x <= n { Draw::Fine } else { Draw::Layout } }
-        Test::Range(from, to) => {
-            if x < from {
-                return Draw::Layout;
-            }
-            if x <= to { Draw::Fine } else { Draw::Layout }
-        }
+        Test::Any => Ok(()),
+        Test::Clean => require(x != STALE, Fault::Stale),
+        Test::Below(n) => require(x < n, Fault::Absent),
+        Test::UpTo(n) => require(x <= n, Fault::Layout),
+        Test::Range(from, to) => require(from <= x && x <= to, Fault::Layout),
     }
 }
 
@@ -60,60 +70,80 @@ fn earliest(drawn: usize, at: usize) -> usize
     if drawn == 0 { at } else { drawn }
 }
 
-// Past the word `at`, which draws d, to the word `next`.
-fn mark(d: Draw, at: usize, next: usize, absent: usize, stale: usize) -> Scan
-    requires { next ≡ at + 1 }
-    ensures { scan_of result ≡ spec.mark (draw_of d) at absent stale }
-{
-    match d {
-        Draw::Fine => Scan::Good {
-            at: next,
-            absent,
-            stale,
-        },
-        Draw::Layout => Scan::Bad,
-        Draw::Absent => Scan::Good {
-            at: next,
-            absent: earliest(absent, at),
-            stale,
-        },
-        Draw::Stale => Scan::Good {
-            at: next,
-            absent,
-            stale: earliest(stale, at),
-        },
-    }
-}
-
-// The word that a walk stands at, 0 past the end.
-pub fn peek(words: &[u32], s: Scan) -> u32
-    ensures { result ≡ spec.peek words.now (scan_of s) }
-{
-    match s {
-        Scan::Bad => 0,
-        Scan::Good { at, .. } => {
-            if at < words.len() {
-                let t = cursor::take(words, at);
-                return t.word;
-            }
-            0
+impl Walk {
+    // Past the word that it stands at, by what that draws, to the word `next`.
+    fn mark(self, drawn: Result<(), Fault>, next: usize) -> Option<Walk>
+        requires { next ≡ self.at + 1 }
+        ensures { scan_of result ≡ spec.mark (draw_of drawn) self.at self.absent self.stale }
+    {
+        match drawn {
+            Ok(()) => Some(Walk { at: next, ..self }),
+            Err(Fault::Layout) => None,
+            Err(Fault::Absent) => Some(Walk {
+                at: next,
+                absent: earliest(self.absent, self.at),
+                ..self
+            }),
+            Err(Fault::Stale) => Some(Walk {
+                at: next,
+                stale: earliest(self.stale, self.at),
+                ..self
+            }),
         }
     }
 }
 
-// Past a word that is put to a test, if the body has one more.
-pub fn word(end: usize, words: &[u32], test: Test, s: Scan) -> Scan
-    ensures { scan_of result ≡ spec.word end words.now (test_of test) (scan_of s) }
-{
-    match s {
-        Scan::Bad => Scan::Bad,
-        Scan::Good { at, absent, stale } => {
-            if at < end {
-                let t = cursor::take(words, at);
-                mark(drawn(test, t.word), at, t.next, absent, stale)
-            } else {
-                Scan::Bad
-            }
+impl<'a> Body<'a> {
+    // A walk that begins at the first word.
+    pub fn start(self) -> Walk
+        ensures { result ≡ record { at = self.entry.first; absent = 0; stale = 0 } }
+    {
+        Walk {
+            at: self.first,
+            absent: 0,
+            stale: 0,
         }
     }
+
+    // The word that a walk stands at, 0 past the end.
+    pub fn peek(self, walk: Walk) -> u32
+        ensures { result ≡ spec.peek self.entry.words.now (walk_of walk) }
+    {
+        words::word(self.words, walk.at)
+    }
+
+    // Past a word that is put to a test, if the body has one more.
+    #[tactic(auto, unfolding(model::specs::Book::Scan::step))]
+    pub fn word(self, test: Test, walk: Walk) -> Option<Walk>
+        ensures { scan_of result ≡ spec.word self.entry.end self.entry.words.now (test_of test) (walk_of walk) }
+    {
+        if self.end <= walk.at {
+            return None;
+        }
+        let t = cursor::take(self.words, walk.at);
+        walk.mark(drawn(test, t.word), t.next)
+    }
+
+    // A count, `most` at the highest, and as many steps.
+    pub fn list<F: Fn(Walk) -> Option<Walk>>(self, most: u32, step: F, walk: Walk) -> Option<Walk>
+        requires { F.IsAlwaysCallable step }
+        ensures { (one : spec.Scan → spec.Scan) → IsStep (F.post step) one
+            → scan_of result ≡ spec.list self.entry.end self.entry.words.now most one (walk_of walk) }
+    {
+        let n = self.peek(walk);
+        let walk = self.word(Test::UpTo(most), walk)?;
+        steps(words::size(n), step, walk)
+    }
+}
+
+// n steps, one after the other.
+pub fn steps<F: Fn(Walk) -> Option<Walk>>(n: usize, step: F, from: Walk) -> Option<Walk>
+    requires { F.IsAlwaysCallable step }
+    ensures { (one : spec.Scan → spec.Scan) → IsStep (F.post step) one → scan_of result ≡ iter (λ _. one) n (walk_of from) }
+{
+    let mut walk = from;
+    for _ in 0..n {
+        walk = step(walk)?;
+    }
+    Some(walk)
 }

@@ -1,19 +1,17 @@
 -- A record is appended to the words of the log; and the words of a log that holds given records.
-use Rattle.std.specs.Prelude.{ℕ, ◌+◌, ◌-◌, cond, List, ◌∷◌, ◌++◌, map, leb, length, get_or, take, replicate}
+use Rattle.std.specs.Prelude.{ℕ, ◌+◌, ◌-◌, cond, List, ◌∷◌, ◌++◌, map, leb, length, get_or, take, replicate, Option, Some, None}
 use Rattle.std.proofs.lemmas.List.Edits.{sets}
 use Rattle.model.specs.Basics.{tab, join}
 use Rattle.model.specs.Machine.State.{Record, log_words}
 use Rattle.model.specs.Answer.{record_words}
-use Rattle.record_log.specs.declared.Appended.{Appended}
-use Rattle.record_log.specs.declared.Appended.TheVariants.{Used, Full}
 
 -- a record of the first n words of an array
 abbrev pub record_of : ℕ → ℕ → List ℕ → ℕ → List ℕ
 record_of kind table row n = kind ∷ table ∷ tab (λ i. get_or row i 0) n
 
 -- the words r of a record go past the `used` words, where they have room: how many are used then, and the log
-unfoldable pub appended : List ℕ → ℕ → List ℕ → Appended
-appended log used r = cond (leb (used + length r) (length log)) (Used (used + length r)) Full
+unfoldable pub appended : List ℕ → ℕ → List ℕ → Option ℕ
+appended log used r = cond (leb (used + length r) (length log)) (Some (used + length r)) None
 
 unfoldable pub stored : List ℕ → ℕ → List ℕ → List ℕ
 stored log used r = cond (leb (used + length r) (length log)) (sets log used r) log

@@ -1,16 +1,15 @@
 -- A record appended to a log that holds records, and where each record stands.
 use Prim.Native.Nat.{ℕ, zero, suc, ◌+◌, ◌-◌, ◌<◌, ◌≤◌}
-use Rattle.std.specs.Prelude.{◌≡◌, Bool, length, get_or, set, take}
+use Rattle.std.specs.Prelude.{◌≡◌, Bool, length, get_or, set, take, Some, slice_get, None}
 use Rattle.std.proofs.Math.Path.{refl, ap}
 use Rattle.std.proofs.Common.{sym, ◌∙◌, add-zero, add-one, le-leb, leb-true, length-append, drop-drop, get_or-drop}
 use Rattle.std.proofs.Math.Bool.{true, false, cond}
-use Rattle.std.proofs.Math.Option.{some}
 use mathlib.Core.List.{List, [], ◌∷◌, ◌++◌, map, append_assoc, append-nil}
 use Rattle.std.proofs.Math.Nat.{sub-zero, zero-sub}
 use native.Mathlib.Omega.{arith}
 use Rattle.std.proofs.Math.Dec.{leb}
 use Rattle.std.proofs.lemmas.Bool.{lt-leb}
-use Rattle.std.proofs.Math.ListN.{drop, replicate, get_elem?}
+use Rattle.std.proofs.Math.ListN.{drop, replicate}
 use Rattle.std.proofs.lemmas.List.{length-replicate, take-append-le}
 use Rattle.std.proofs.lemmas.List.Edits.{sets}
 use Rattle.std.proofs.Math.Seq.{sets-eq, take_at, drop-append-add, drop-append-le, take-append_seam, take-length}
@@ -20,7 +19,6 @@ use Rattle.model.specs.Answer.{record_words}
 use Rattle.model.specs.Book.Decode.{part}
 use Rattle.model.specs.Laws.Logic.{none_some, some_inj}
 use Rattle.model.specs.Laws.Lists.{length_tab}
-use Rattle.record_log.specs.declared.Appended.TheVariants.{Used, Full}
 use Rattle.record_log.specs.Log.{record_of, appended, stored, log_of, place_of}
 
 -- ## What the code leans on
@@ -47,11 +45,11 @@ module _ (kind table : ℕ) (row : List ℕ) (n : ℕ) where
       rw (e, add-one)
 
 module _ (log : List ℕ) (used : ℕ) (r : List ℕ) where
-  pub no_room : length log < used + length r → (Full ≡ appended log used r) × (log ≡ stored log used r)
+  pub no_room : length log < used + length r → (None ≡ appended log used r) × (log ≡ stored log used r)
   unfolding appended stored
   no_room h = (rw (lt-leb _ _ h), rw (lt-leb _ _ h))
 
-  pub room : used + length r ≤ length log → (Used (used + length r) ≡ appended log used r) × (sets log used r ≡ stored log used r)
+  pub room : used + length r ≤ length log → (Some (used + length r) ≡ appended log used r) × (sets log used r ≡ stored log used r)
   unfolding appended stored
   room h = (rw (le-leb _ _ h), rw (le-leb _ _ h))
 
@@ -118,7 +116,7 @@ module _ (rs : List Record) (L : ℕ) (r : Record) where
     test : leb (log_words rs + size) (length (log_of rs L)) ≡ leb (log_words all) L
     test = rw (length_log rs L h, more_words rs r)
 
-    pub append_answer : appended (log_of rs L) (log_words rs) (record_words r) ≡ cond (leb (log_words all) L) (Used (log_words all)) Full
+    pub append_answer : appended (log_of rs L) (log_words rs) (record_words r) ≡ cond (leb (log_words all) L) (Some (log_words all)) None
     unfolding appended
     append_answer = rw (test, more_words rs r)
 
@@ -133,7 +131,7 @@ module _ (rs : List Record) (L : ℕ) (r : Record) where
 -- ## Where a record stands
 
 -- the records' words from record n on begin with its own
-from_record : (rs : List Record) (n : ℕ) (r : Record) → get_elem? rs n ≡ some r → (rest : List ℕ) × (drop (log_words (take n rs)) (join (map record_words rs)) ≡ record_words r ++ rest)
+from_record : (rs : List Record) (n : ℕ) (r : Record) → slice_get rs n ≡ Some r → (rest : List ℕ) × (drop (log_words (take n rs)) (join (map record_words rs)) ≡ record_words r ++ rest)
 from_record [] n r e = absurd (none_some e)
 from_record (s ∷ rs) zero r e = (join (map record_words rs), ap (λ (x : Record). record_words x ++ join (map record_words rs)) (some_inj e))
 from_record (s ∷ rs) (suc n) r e =
@@ -141,12 +139,12 @@ from_record (s ∷ rs) (suc n) r e =
     let k : log_words (s ∷ take n rs) ≡ length (record_words s) + log_words (take n rs) = omega arith in
     (q.0, rw k (drop-append-add (record_words s) (join (map record_words rs)) (log_words (take n rs))) ∙ q.1)
 
-before_within : (rs : List Record) (n : ℕ) (r : Record) → get_elem? rs n ≡ some r → log_words (take n rs) + length (record_words r) ≤ log_words rs
+before_within : (rs : List Record) (n : ℕ) (r : Record) → slice_get rs n ≡ Some r → log_words (take n rs) + length (record_words r) ≤ log_words rs
 before_within [] n r e = absurd (none_some e)
 before_within (s ∷ rs) zero r e = omega (arith, ap (λ (x : Record). length x.words) (some_inj e))
 before_within (s ∷ rs) (suc n) r e = omega (arith, before_within rs n r e)
 
-module _ (rs : List Record) (n : ℕ) (r : Record) (e : get_elem? rs n ≡ some r) where
+module _ (rs : List Record) (n : ℕ) (r : Record) (e : slice_get rs n ≡ Some r) where
   pub record_within : place_of rs n + length (record_words r) ≤ log_words rs
   unfolding place_of
   record_within = before_within rs n r e

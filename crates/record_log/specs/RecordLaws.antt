@@ -1,11 +1,9 @@
 -- The walk over a log that holds records: each of them in turn, with its kind, its table and its words.
 use Prim.Native.Nat.{ℕ, zero, suc, ◌+◌, ◌<◌, ◌≤◌}
-use Rattle.std.specs.Prelude.{◌≡◌, cond, List, [], ◌∷◌, map, eqb, length, get_or}
+use Rattle.std.specs.Prelude.{◌≡◌, cond, List, [], ◌∷◌, map, eqb, length, get_or, Some, slice_get}
 use Rattle.std.proofs.Math.Path.{refl, sym, ap}
 use Rattle.std.proofs.Common.{◌∙◌, append-nil, arith}
-use Rattle.std.proofs.Math.Option.{some}
 use Rattle.std.proofs.Math.Nat.{zero-sub}
-use Rattle.std.proofs.Math.ListN.{get_elem?}
 use Rattle.std.proofs.Math.Seq.{take-length}
 use Rattle.model.specs.Basics.{iter, join, All}
 use Rattle.model.specs.Book.Syntax.{Table, table_at}
@@ -33,7 +31,7 @@ pub size_is : {w : List ℕ} {r : Record} → Sized w r → length r.words ≡ c
 unfolding read_table
 size_is {w} {r} s = s.size ∙ ap (λ (T : Table). record_size T r.kind) (table_is w r.table s.table)
 
-next_place : (rs : List Record) (n : ℕ) (r : Record) → get_elem? rs n ≡ some r → place_of rs (suc n) ≡ place_of rs n + 2 + length r.words
+next_place : (rs : List Record) (n : ℕ) (r : Record) → slice_get rs n ≡ Some r → place_of rs (suc n) ≡ place_of rs n + 2 + length r.words
 unfolding place_of
 next_place [] n r e = absurd (none_some e)
 next_place (s ∷ rs) zero r e = omega (arith, ap (λ (x : Record). length x.words) (some_inj e))
@@ -51,7 +49,7 @@ module _ (w : List ℕ) (rs : List Record) (sized : All (Sized w) rs) where
   abbrev log : List ℕ
   log = records_of rs
 
-  module _ (n : ℕ) (r : Record) (e : get_elem? rs n ≡ some r) where
+  module _ (n : ℕ) (r : Record) (e : slice_get rs n ≡ Some r) where
     kind_here : get_or log (place_of rs n) 0 ≡ r.kind
     kind_here = rw (no_zeros rs) at (kind_at rs n r e 0)
 

@@ -1,32 +1,11 @@
 // The log: records of kind, table and words, one after the other, appended up to the end of the words that are lent for it; and where each ends.
 #![tactic(auto)]
 
-ghost use Rattle.std.specs.Prelude.{◌≡◌, ◌+◌, ◌≤◌, length, get_or};
-ghost use Rattle.std.proofs.lemmas.List.Edits.{sets};
-ghost use Rattle.model.specs.Basics.{tab};
+ghost use Rattle.std.specs.Prelude.{◌≡◌, ◌≤◌, length};
 ghost use Rattle.record_log.specs.Log.{record_of, appended, stored};
 ghost use Rattle.record_log.specs.Walk.{end_of};
 
 use ids::TableId;
-
-// How many words are used after a record was appended; or there is no room for it.
-#[derive(Clone, Copy)]
-pub enum Appended {
-    Used(usize),
-    Full,
-}
-
-// The first `count` words of the row, from the word `at` on.
-fn store(log: &mut [u32], at: usize, row: &[u32; 16], count: usize)
-    requires { (at + count ≤ length log.old) × (count ≤ 16) }
-    ensures { log.new ≡ sets log.old at (tab (λ i. get_or row.now i 0) count) }
-{
-    let mut i = 0;
-    while i < count {
-        log[at + i] = row[i];
-        i += 1;
-    }
-}
 
 // A record of kind 0 (insert), 1 (removal) or 2 (predicted row), past the words that are used. Nothing is written where it has no room.
 pub fn append(
@@ -36,19 +15,19 @@ pub fn append(
     table: TableId,
     row: &[u32; 16],
     count: usize,
-) -> Appended
+) -> Option<usize>
     requires { (used ≤ length log.old) × (count ≤ 16) }
     ensures answer { result ≡ appended log.old used (record_of kind table.0 row.now count) }
     ensures log { log.new ≡ stored log.old used (record_of kind table.0 row.now count) }
 {
     let end = used + 2 + count;
     if log.len() < end {
-        return Appended::Full;
+        return None;
     }
     log[used] = kind;
     log[used + 1] = table.0;
-    store(log, used + 2, row, count);
-    Appended::Used(end)
+    log[used + 2..end].copy_from_slice(&row[..count]);
+    Some(end)
 }
 
 // The word past the record at p: its kind and its table, then a key if it is a removal, else a row.

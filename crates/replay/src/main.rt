@@ -9,10 +9,8 @@ use std::rt::{Env, Files};
 use std::{io, str};
 
 fn replay_book(rt: &(impl Files + Print), name: &str) -> Result<(), Failure> {
-    match File::open(rt, name) {
-        Ok(mut file) => session::serve(&mut file, &mut io::writer(rt)),
-        Err(error) => Err(Failure::Input(error)),
-    }
+    let mut file = File::open(rt, name).map_err(Failure::Input)?;
+    session::serve(&mut file, &mut io::writer(rt))
 }
 
 fn replay_file(rt: &(impl Files + Print + Eprint), name: &str) {
@@ -26,28 +24,16 @@ fn complain(rt: &impl Eprint, kind: ErrorKind) {
     session::complain(rt, "argument", Failure::Input(Error::from(kind)));
 }
 
-// Whether there may be further arguments.
-fn replay(rt: &(impl Env + Files + Print + Eprint), i: usize) -> bool {
-    let mut name = [0u8; 4096];
-    match rt.arg(i, &mut name) {
-        Ok(n) => match str::from_utf8(&name[..n]) {
-            Ok(name) => replay_file(rt, name),
-            Err(_) => complain(rt, ErrorKind::InvalidData),
-        },
-        Err(FillError::TooLong) => {
-            complain(rt, ErrorKind::InvalidFilename);
-        }
-        Err(FillError::NotPresent) => {
-            return false;
-        }
-    }
-    true
-}
-
 fn main(rt: HostRuntime) {
+    let mut name = [0u8; 4096];
     for i in 1..usize::MAX {
-        if !replay(&rt, i) {
-            break;
+        match rt.arg(i, &mut name) {
+            Ok(n) => match str::from_utf8(&name[..n]) {
+                Ok(name) => replay_file(&rt, name),
+                Err(_) => complain(&rt, ErrorKind::InvalidData),
+            },
+            Err(FillError::TooLong) => complain(&rt, ErrorKind::InvalidFilename),
+            Err(FillError::NotPresent) => break,
         }
     }
 }

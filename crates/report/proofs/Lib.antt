@@ -1,1 +1,2 @@
+pub mod Append
 pub mod Prints

@@ -1,9 +1,8 @@
 -- The lines of an answer, and so those of any outcome that the engine may return, are those that the book prints.
 use Prim.Native.Nat.{ℕ, ◌≤◌}
-use Rattle.std.specs.Prelude.{◌≡◌, Bool, ◌*◌, ◌^◌}
+use Rattle.std.specs.Prelude.{◌≡◌, Bool, ◌*◌, ◌^◌, Some, Option, None}
 use Rattle.std.proofs.Math.Path.{refl, sym, ap}
 use Rattle.std.proofs.Common.{◌∙◌}
-use Rattle.std.proofs.Math.Option.{some, Option, none}
 use mathlib.Core.List.{List, [], ◌∷◌, ◌++◌, reverse, append_assoc}
 use native.Mathlib.Omega.{arith}
 use Rattle.std.proofs.Math.ListN.{length}
@@ -47,18 +46,18 @@ answer_short ts s fit h few = rw (answer_lines_lem ts s fit) (lines_short ts s.c
 -- ## What is printed
 
 module _ (l : Lent) (book : List ℕ) where
-  accepted_printed : (us : List Table) → refusal l book ≡ none → Arranged (committed l book) us → All (Sized (words_of book)) (left l book).log → answer_lines (answer us (left l book)) ≡ printed l book
+  accepted_printed : (us : List Table) → refusal l book ≡ None → Arranged (committed l book) us → All (Sized (words_of book)) (left l book).log → answer_lines (answer us (left l book)) ≡ printed l book
   unfolding printed
   accepted_printed us e h sized = rw e (answer_lines_lem us (left l book) (All-map (fits l book us h) (left l book).log sized) ∙ rw (arranged_lines 0 (committed l book) us h))
 
   -- where the book is accepted, the log's records are as long as their tables ask
-  module _ (sized : refusal l book ≡ none → All (Sized (words_of book)) (left l book).log) where
+  module _ (sized : refusal l book ≡ None → All (Sized (words_of book)) (left l book).log) where
     pub permitted_lines : (o : Outcome) → Permitted l book o → outcome_lines o ≡ printed l book
     permitted_lines (refused r) p = by (refusal l book) refl
       where
         by : (x : Option Refusal) → refusal l book ≡ x → refused_line r.number r.place ∷ [] ≡ printed l book
-        by none e = let z : ◌≡◌ {A = ℕ} 0 1 = clash (sym (outcome_accepted l book e) ∙ p) in absurd (omega arith)
-        by (some q) e = rw (its (sym (outcome_refused l book q e) ∙ p)) (refused_printed l book q e)
+        by None e = let z : ◌≡◌ {A = ℕ} 0 1 = clash (sym (outcome_accepted l book e) ∙ p) in absurd (omega arith)
+        by (Some q) e = rw (its (sym (outcome_refused l book q e) ∙ p)) (refused_printed l book q e)
     permitted_lines (accepted ws) p = let e = unrefused l book (answer (committed l book) (left l book)) p.3 in rw p.2 (accepted_printed p.0 e p.1 (sized e))
 
     -- an answer of at most n words has lines of at most 11 n bytes; a refusal's line has 53 at most, which is no more from 5 words on

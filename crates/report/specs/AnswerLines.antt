@@ -1,16 +1,15 @@
 -- The lines read from the words of an answer are the model's, family by family; `proofs/Prints` puts them together.
 use Prim.Native.Nat.{ℕ, zero, suc, ◌+◌, ◌-◌, ◌<◌, ◌≤◌}
-use Rattle.std.specs.Prelude.{◌≡◌, Bool, true, false, cond, take, drop}
+use Rattle.std.specs.Prelude.{◌≡◌, Bool, true, false, cond, take, drop, Some, slice_get}
 use Rattle.std.proofs.Math.Path.{refl, sym, ap}
 use Rattle.std.proofs.Common.{◌∙◌, add-zero}
-use Rattle.std.proofs.Math.Option.{some}
 use mathlib.Core.List.{List, [], ◌∷◌, ◌++◌, map, append-nil, append_assoc}
 use Rattle.std.proofs.Math.Nat.{zero-sub}
 use Rattle.std.proofs.Math.Numerals.{add-one}
 use Rattle.std.proofs.Math.Decide.{dec_lt}
 use native.Mathlib.Omega.{arith}
 use Rattle.std.proofs.Math.Dec.{eqb}
-use Rattle.std.proofs.Math.ListN.{length, get_or, get_elem?, length-append, length-map}
+use Rattle.std.proofs.Math.ListN.{length, get_or, length-append, length-map}
 use Rattle.std.proofs.Math.Seq.{take-length}
 use Rattle.model.specs.Basics.{iter, when, how_many, All}
 use Rattle.model.specs.Book.Syntax.{Counter, next_of, Table, table_at}
@@ -33,21 +32,21 @@ use Rattle.report.specs.Entries.{count_is, kind_is, body_is, word_is}
 -- ## Lists
 
 module _ {A : Type 0} where
-  take_more : (xs : List A) (i : ℕ) (x : A) → get_elem? xs i ≡ some x → take (suc i) xs ≡ take i xs ++ (x ∷ [])
+  take_more : (xs : List A) (i : ℕ) (x : A) → slice_get xs i ≡ Some x → take (suc i) xs ≡ take i xs ++ (x ∷ [])
   take_more [] i x e = absurd (none_some e)
   take_more (y ∷ xs) zero x e = ap (λ (z : A). z ∷ []) (some_inj e)
   take_more (y ∷ xs) (suc i) x e = ap (λ (l : List A). y ∷ l) (take_more xs i x e)
 
-  at_front : (xs ys : List A) (i : ℕ) (x : A) → get_elem? xs i ≡ some x → get_elem? (xs ++ ys) i ≡ some x
+  at_front : (xs ys : List A) (i : ℕ) (x : A) → slice_get xs i ≡ Some x → slice_get (xs ++ ys) i ≡ Some x
   at_front [] ys i x e = absurd (none_some e)
   at_front (y ∷ xs) ys zero x e = e
   at_front (y ∷ xs) ys (suc i) x e = at_front xs ys i x e
 
-  at_end : (xs : List A) (x : A) → get_elem? (xs ++ (x ∷ [])) (length xs) ≡ some x
+  at_end : (xs : List A) (x : A) → slice_get (xs ++ (x ∷ [])) (length xs) ≡ Some x
   at_end [] x = refl
   at_end (y ∷ xs) x = at_end xs x
 
-  at_map : {B : Type 0} (f : A → B) (xs : List A) (i : ℕ) (d : A) → i < length xs → get_elem? (map f xs) i ≡ some (f (get_or xs i d))
+  at_map : {B : Type 0} (f : A → B) (xs : List A) (i : ℕ) (d : A) → i < length xs → slice_get (map f xs) i ≡ Some (f (get_or xs i d))
   at_map f [] i d h = absurd (omega arith)
   at_map f (y ∷ xs) zero d h = refl
   at_map f (y ∷ xs) (suc i) d h = at_map f xs i d (omega arith)
@@ -93,7 +92,7 @@ module _ (f : Family) where
   lined_next k xs ys ls ms e m = lined_append k xs ys ∙ rw e (ap (λ (l : List Line). ls ++ l) m)
 
   -- the entries of the bodies, laid out
-  entry_line_lem : (bs : List Body) (k i : ℕ) (b : Body) → get_elem? bs i ≡ some b → entry_line (lay_out bs) f k i ≡ body_line f k b
+  entry_line_lem : (bs : List Body) (k i : ℕ) (b : Body) → slice_get bs i ≡ Some b → entry_line (lay_out bs) f k i ≡ body_line f k b
   unfolding entry_line body_line
   entry_line_lem bs k i b e = same f (kind_is bs i b e) (body_is bs i b e)
     where
@@ -198,10 +197,10 @@ module _ (ts : List Table) (cs : List Counter) (as' : List Answer) (changes : Bo
       let ls = table_lines 0 ts in
       let n = 0 + length ls in
       let t = voiced Tables table_body (λ k u. table k (length u.rows)) (λ k x. refl) 0 ts ∙ tables_listed 0 ts in
-      let none = append-nil ls in
+      let None = append-nil ls in
       family_lined Tables bodies
-      ∙ lined_next Tables 0 front (last ∷ []) ls [] (lined_next Tables 0 (map table_body ts ++ map counter_body cs) (map step_body as') ls [] (lined_next Tables 0 (map table_body ts) (map counter_body cs) ls [] t (quiet Tables counter_body (λ k x. refl) n cs) ∙ none) (quiet Tables step_body no_table n as') ∙ none) refl
-      ∙ none
+      ∙ lined_next Tables 0 front (last ∷ []) ls [] (lined_next Tables 0 (map table_body ts ++ map counter_body cs) (map step_body as') ls [] (lined_next Tables 0 (map table_body ts) (map counter_body cs) ls [] t (quiet Tables counter_body (λ k x. refl) n cs) ∙ None) (quiet Tables step_body no_table n as') ∙ None) refl
+      ∙ None
 
   pub counter_lines_lem : family_lines w Counters ≡ counter_lines 0 cs
   unfolding body_line lined
@@ -210,10 +209,10 @@ module _ (ts : List Table) (cs : List Counter) (as' : List Answer) (changes : Bo
       let n = 0 + length ls in
       let t = quiet Counters table_body (λ k x. refl) 0 ts in
       let c = voiced Counters counter_body (λ k x. counter k (next_of x)) (λ k x. refl) 0 cs ∙ counters_listed 0 cs in
-      let none = append-nil ls in
+      let None = append-nil ls in
       family_lined Counters bodies
-      ∙ lined_next Counters 0 front (last ∷ []) ls [] (lined_next Counters 0 (map table_body ts ++ map counter_body cs) (map step_body as') ls [] (lined_next Counters 0 (map table_body ts) (map counter_body cs) [] ls t c) (quiet Counters step_body no_counter_lem n as') ∙ none) refl
-      ∙ none
+      ∙ lined_next Counters 0 front (last ∷ []) ls [] (lined_next Counters 0 (map table_body ts ++ map counter_body cs) (map step_body as') ls [] (lined_next Counters 0 (map table_body ts) (map counter_body cs) [] ls t c) (quiet Counters step_body no_counter_lem n as') ∙ None) refl
+      ∙ None
 
   -- ## The log
 
@@ -222,7 +221,7 @@ module _ (ts : List Table) (cs : List Counter) (as' : List Answer) (changes : Bo
       let n : length bodies - 1 ≡ length front = omega (arith, length-append front (last ∷ [])) in
       rw (count_is bodies, n) (body_is bodies (length front) last (at_end front last))
 
-  table_body_lem : (t : ℕ) → t < length ts → get_elem? bodies t ≡ some (table_body (table_at ts t))
+  table_body_lem : (t : ℕ) → t < length ts → slice_get bodies t ≡ Some (table_body (table_at ts t))
   table_body_lem t h =
       let b = table_body (table_at ts t) in
       at_front front (last ∷ []) t b (at_front (map table_body ts ++ map counter_body cs) (map step_body as') t b (at_front (map table_body ts) (map counter_body cs) t b (at_map table_body ts t _ h)))
@@ -262,7 +261,7 @@ module _ (ts : List Table) (cs : List Counter) (as' : List Answer) (changes : Bo
     unfolding log_of
     no_zeros = rw zero-sub (append-nil ws)
 
-    module _ (n : ℕ) (r : Record) (e : get_elem? log n ≡ some r) where
+    module _ (n : ℕ) (r : Record) (e : slice_get log n ≡ Some r) where
       abbrev place : ℕ
       place = place_of log n
 

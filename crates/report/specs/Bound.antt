@@ -16,7 +16,7 @@ use Rattle.report.specs.TextLaws.{text_append, text_one}
 
 -- ## A text that has room
 
-stored : (bs l : List ℕ) (n : ℕ) → n + length bs ≤ length l → appended bs (up_to l n) ≡ up_to (sets l n bs) (n + length bs)
+pub stored : (bs l : List ℕ) (n : ℕ) → n + length bs ≤ length l → appended bs (up_to l n) ≡ up_to (sets l n bs) (n + length bs)
 unfolding appended pushed
 stored [] l n h = rw (add-zero n)
 stored (b ∷ bs) l n h =

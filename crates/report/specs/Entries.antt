@@ -1,11 +1,10 @@
 -- What stands where in the words of bodies that are laid out: each entry's kind, and its body.
 use Prim.Native.Nat.{ℕ, zero, suc, ◌+◌, ◌*◌}
-use Rattle.std.specs.Prelude.{◌≡◌, refl, List, [], ◌∷◌, ◌++◌, map, get_or, take}
+use Rattle.std.specs.Prelude.{◌≡◌, refl, List, [], ◌∷◌, ◌++◌, map, get_or, take, Some, slice_get}
 use Rattle.std.proofs.Common.{sym, ◌∙◌, add-zero, length-append, get_or-drop}
 use Rattle.std.proofs.Math.Path.{ap}
-use Rattle.std.proofs.Math.Option.{some}
 use native.Mathlib.Omega.{arith}
-use Rattle.std.proofs.Math.ListN.{length, drop, get_elem?}
+use Rattle.std.proofs.Math.ListN.{length, drop}
 use Rattle.std.proofs.Math.Seq.{drop-append-add, take-append_seam}
 use Rattle.model.specs.Basics.{join}
 use Rattle.model.specs.Book.Contents.{count, kind_of, first_of, length_of}
@@ -26,7 +25,7 @@ record Entry (l : List ℕ) (i first : ℕ) (b : Body) : Type 0 where
   place : get_or l (suc (3 * i)) 0 ≡ first
   size : get_or l (suc (suc (3 * i))) 0 ≡ length b.words
 
-entry_at_lem : (p : ℕ) (bs : List Body) (i : ℕ) (b : Body) (rest : List ℕ) → get_elem? bs i ≡ some b → Entry (contents_from p bs ++ rest) i (p + length (words_in (take i bs))) b
+entry_at_lem : (p : ℕ) (bs : List Body) (i : ℕ) (b : Body) (rest : List ℕ) → slice_get bs i ≡ Some b → Entry (contents_from p bs ++ rest) i (p + length (words_in (take i bs))) b
 entry_at_lem p [] i b rest e = absurd (none_some e)
 entry_at_lem p (c ∷ bs) zero b rest e = record {
   kind = ap (λ (x : Body). x.kind) (some_inj e);
@@ -43,7 +42,7 @@ entry_at_lem p (c ∷ bs) (suc i) b rest e =
     }
 
 -- the bodies' words, from body i on
-from_body : (bs : List Body) (i : ℕ) (b : Body) → get_elem? bs i ≡ some b → (rest : List ℕ) × (drop (length (words_in (take i bs))) (words_in bs) ≡ b.words ++ rest)
+from_body : (bs : List Body) (i : ℕ) (b : Body) → slice_get bs i ≡ Some b → (rest : List ℕ) × (drop (length (words_in (take i bs))) (words_in bs) ≡ b.words ++ rest)
 from_body [] i b e = absurd (none_some e)
 from_body (c ∷ bs) zero b e = (words_in bs, ap (λ (x : Body). x.words ++ words_in bs) (some_inj e))
 from_body (c ∷ bs) (suc i) b e =
@@ -54,7 +53,7 @@ pub count_is : (bs : List Body) → count (lay_out bs) ≡ length bs
 unfolding lay_out
 count_is bs = refl
 
-module _ (bs : List Body) (i : ℕ) (b : Body) (e : get_elem? bs i ≡ some b) where
+module _ (bs : List Body) (i : ℕ) (b : Body) (e : slice_get bs i ≡ Some b) where
   abbrev first : ℕ
   first = 1 + 3 * length bs + length (words_in (take i bs))
 

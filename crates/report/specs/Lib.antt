@@ -1,4 +1,5 @@
 pub mod Text
+pub mod Page
 pub mod TextLaws
 pub mod Lines
 pub mod LinesLaws

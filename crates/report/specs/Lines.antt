@@ -1,12 +1,10 @@
-use Rattle.std.specs.Prelude.{ℕ, zero, suc, ◌+◌, ◌-◌, ◌≡◌, cond, List, [], ◌∷◌, ◌++◌, eqb, length, get_or, drop}
+use Rattle.std.specs.Prelude.{ℕ, zero, suc, ◌+◌, ◌-◌, cond, List, [], ◌∷◌, ◌++◌, eqb, length, get_or, drop}
 use Rattle.model.specs.Book.Contents.{count, kind_of, first_of, length_of}
 use Rattle.model.specs.Book.Decode.{part}
 use Rattle.model.specs.Printed.{Line, run, row, ins, del, changed, table, counter}
 use Rattle.record_log.specs.Walk.{end_of, walked}
 use Rattle.report.specs.declared.lines.Family.{Family}
 use Rattle.report.specs.declared.lines.Family.TheVariants.{Steps, Tables, Counters}
-use Rattle.report.specs.declared.lines.Lines.{Lines}
-use Rattle.report.specs.Text.{text, up_to, appended}
 
 -- The lines of an answer, read from its words. Every function here is total: of other words its value means nothing and is never used.
 
@@ -46,9 +44,3 @@ module _ (w : List ℕ) where
   -- steps, log and flag, tables, counters
   unfoldable pub answer_lines : List Line
   answer_lines = family_lines Steps ++ log_lines ++ family_lines Tables ++ family_lines Counters
-
--- ## What a call writes
-
--- the buffer and the count after the lines ls; the buffer and the count before
-abbrev pub Written : List ℕ → Lines → List Line → List ℕ → Lines → Type 0
-Written out r ls out₀ l = (up_to out r.at ≡ appended (text ls) (up_to out₀ l.at)) × (r.count ≡ l.count + length ls)

@@ -1,82 +1,40 @@
-use Prim.Native.Nat.{ℕ, zero, suc, ◌+◌, ◌-◌, ◌<◌, ◌≤◌, min}
+use Prim.Native.Nat.{ℕ, zero, suc, ◌+◌, ◌≤◌}
 use Rattle.std.proofs.Math.Path.{◌≡◌, refl, ap}
-use Rattle.std.proofs.Common.{sym, ◌∙◌, add-one, arith, length-append, length-drop, drop_of_length-le, take_all}
-use Rattle.std.specs.Prelude.{Bool, cond, List, [], ◌∷◌, ◌++◌, eqb, leb, length, get_or, take, drop}
+use Rattle.std.proofs.Common.{sym, ◌∙◌, add-one, arith, length-append}
+use Rattle.std.specs.Prelude.{Bool, cond, List, [], ◌∷◌, ◌++◌, eqb, leb, length, get_or, drop}
 use Rattle.std.proofs.Math.Bool.{true, false}
-use Rattle.std.proofs.Math.Decide.{dec_lt}
-use Rattle.std.proofs.Math.Seq.{take-length, take-nil, drop-nil}
 use Rattle.model.specs.Basics.{iter}
 use Rattle.model.specs.Book.Contents.{kind_of}
-use Rattle.model.specs.Book.Decode.{part}
 use Rattle.model.specs.Printed.{Line, changed}
 use Rattle.record_log.specs.Walk.{Walk, pass, start, walked, end_of}
 use Rattle.report.specs.declared.lines.Family.{Family}
 use Rattle.report.specs.declared.lines.Family.TheVariants.{Steps, Tables, Counters}
-use Rattle.report.specs.declared.lines.Lines.{Lines}
-use Rattle.report.specs.Text.{line_bytes, text, Text, up_to, appended}
+use Rattle.report.specs.Text.{line_bytes, text, Text, appended}
 use Rattle.report.specs.TextLaws.{appended_append, text_append, text_one}
-use Rattle.report.specs.Lines.{numbered, record_line, entry_line, family_lines, log_body, record_lines, log_lines, answer_lines, Written}
+use Rattle.report.specs.Page.{Written, written_none, written_more}
+use Rattle.report.specs.declared.text.Page.{Page}
+use Rattle.report.specs.Lines.{numbered, record_line, entry_line, family_lines, log_body, record_lines, log_lines, answer_lines}
 
--- What the code leans on: parts of words, and lines one after the other.
+-- What the code leans on: lines one after the other.
 
--- ## A part that is cut where the words end
+-- ## The lines of entries
 
-take_min : (n : ℕ) (l : List ℕ) → take (min n (length l)) l ≡ take n l
-take_min n l = elim (dec_lt n (length l)) [ yes p ↦ below p | no p ↦ above (omega arith) ]
-  where
-    below : n < length l → take (min n (length l)) l ≡ take n l
-    below p = let e : min n (length l) ≡ n = omega arith in rw e
-
-    above : length l ≤ n → take (min n (length l)) l ≡ take n l
-    above p = let e : min n (length l) ≡ length l = omega arith in rw e (take-length l ∙ sym (take_all n l p))
-
-pub part_cut : (w : List ℕ) (p n : ℕ) → take (min (p + n) (length w) - min p (length w)) (drop (min p (length w)) w) ≡ part w p n
-part_cut w p n = elim (dec_lt (length w) p) [ yes h ↦ past h | no h ↦ within (omega arith) ]
-  where
-    past : length w < p → take (min (p + n) (length w) - min p (length w)) (drop (min p (length w)) w) ≡ part w p n
-    past h =
-        let e : min p (length w) ≡ length w = omega arith in
-        rw (e, drop_of_length-le w {i = length w} (omega arith), drop_of_length-le w {i = p} (omega arith)) (simp take-nil)
-
-    within : p ≤ length w → take (min (p + n) (length w) - min p (length w)) (drop (min p (length w)) w) ≡ part w p n
-    within h =
-        let e : min p (length w) ≡ p = omega arith in
-        let k : min (p + n) (length w) - p ≡ min n (length (drop p w)) = omega (arith, length-drop p w) in
-        rw (e, k) (take_min n (drop p w))
-
-pub rest_is : (w : List ℕ) → take (length w - min 1 (length w)) (drop (min 1 (length w)) w) ≡ drop 1 w
-rest_is [] = simp (drop-nil, take-nil)
-rest_is (x ∷ w) =
-    let e : min 1 (suc (length w)) ≡ 1 = omega arith in
-    rw e (take_all (suc (length w) - 1) w (omega arith))
-
--- ## Lines that are written
-
-pub written_none : (out : List ℕ) (l : Lines) → Written out l [] out l
-unfolding appended text
-written_none out l = (refl, omega arith)
-
-pub written_one : (out out₀ : List ℕ) (r l : Lines) (line : Line) → up_to out r.at ≡ appended (line_bytes line) (up_to out₀ l.at) → r.count ≡ l.count + 1 → Written out r (line ∷ []) out₀ l
-written_one out out₀ r l line e c = (rw (text_one line) e, c)
-
-pub written_more : (a b c : List ℕ) (r s l : Lines) (ls ms : List Line) → Written b r ls a l → Written c s ms b r → Written c s (ls ++ ms) a l
-written_more a b c r s l ls ms h k = (
-  k.0 ∙ ap (appended (text ms)) h.0 ∙ sym (rw (text_append ls ms) (appended_append (text ls) (text ms) (up_to a l.at))),
-  omega (arith, h.1, k.1, length-append ls ms),
-)
-
--- the line of one entry more
-pub numbered_more : (f : ℕ → ℕ → List Line) (i : ℕ) (a b c : List ℕ) (at : ℕ) (r s : Lines) → Written b r (numbered f i) a (record { count = 0; at = at }) → Written c s (f r.count i) b r → Written c s (numbered f (i + 1)) a (record { count = 0; at = at })
+-- the lines of no entry; the line of one entry more, if it has one
+pub numbered_none : (f : ℕ → ℕ → List Line) (p : Page) → Written p 0 (numbered f 0) p 0
 unfolding numbered
-numbered_more f i a b c at r s h k =
-    let e : length (numbered f i) ≡ r.count = omega (arith, h.1) in
-    rw (add-one, e) (written_more a b c r s (record { count = 0; at = at }) (numbered f i) (f r.count i) h k)
+numbered_none f p = written_none p 0
+
+pub numbered_more : (f : ℕ → ℕ → List Line) (i : ℕ) {p q r : Page} {m k : ℕ} → Written q m (numbered f i) p 0 → Written r k (f m i) q m → Written r k (numbered f (i + 1)) p 0
+unfolding numbered
+numbered_more f i {p} {q} {r} {m} {k} h j =
+    let e : length (numbered f i) ≡ m = omega (arith, h.count) in
+    rw (add-one, e) (written_more h j)
 
 at_most : (a : Bool) (x : Line) → length (cond a (x ∷ []) []) ≤ 1
 at_most true x = omega arith
 at_most false x = omega arith
 
-pub one_line : (w : List ℕ) (f : Family) (k i : ℕ) → length (entry_line w f k i) ≤ 1
+one_line : (w : List ℕ) (f : Family) (k i : ℕ) → length (entry_line w f k i) ≤ 1
 unfolding entry_line
 one_line w Steps k i = by (eqb (kind_of w i) 6) _ (eqb (kind_of w i) 7) _
   where
@@ -86,6 +44,13 @@ one_line w Steps k i = by (eqb (kind_of w i) 6) _ (eqb (kind_of w i) 7) _
     by false x false y = omega arith
 one_line w Tables k i = at_most (eqb (kind_of w i) 1) _
 one_line w Counters k i = at_most (eqb (kind_of w i) 2) _
+
+pub few_lines : (w : List ℕ) (f : Family) (n : ℕ) → length (numbered (entry_line w f) n) ≤ n
+unfolding numbered
+few_lines w f zero = omega arith
+few_lines w f (suc n) =
+    let ls = numbered (entry_line w f) n in
+    omega (arith, few_lines w f n, one_line w f (length ls) n, length-append ls (entry_line w f (length ls) n))
 
 -- ## The log's records
 
@@ -118,18 +83,10 @@ module _ (w log : List ℕ) where
 
 -- ## All together
 
-pub text_then : (a b : List Line) (t : Text) → appended (text (a ++ b)) t ≡ appended (text b) (appended (text a) t)
-text_then a b t = rw (text_append a b) (appended_append (text a) (text b) t)
-
-pub log_is : (w body : List ℕ) (t : Text) → body ≡ log_body w → appended (line_bytes (changed (get_or body 0 0))) (appended (text (record_lines w (drop 1 body))) t) ≡ appended (text (log_lines w)) t
+pub log_is : (w : List ℕ) → text (record_lines w (drop 1 (log_body w))) ++ line_bytes (changed (get_or (log_body w) 0 0)) ≡ text (log_lines w)
 unfolding log_lines
-log_is w body t e = rw e (sym (text_then (record_lines w (drop 1 (log_body w))) (changed (get_or (log_body w) 0 0) ∷ []) t ∙ rw (text_one (changed (get_or (log_body w) 0 0)))))
+log_is w = sym (text_append (record_lines w (drop 1 (log_body w))) (changed (get_or (log_body w) 0 0) ∷ []) ∙ ap (λ (l : List ℕ). text (record_lines w (drop 1 (log_body w))) ++ l) (text_one (changed (get_or (log_body w) 0 0))))
 
-pub answer_is : (w : List ℕ) (t : Text) → appended (text (family_lines w Counters)) (appended (text (family_lines w Tables)) (appended (text (log_lines w)) (appended (text (family_lines w Steps)) t))) ≡ appended (text (answer_lines w)) t
+pub answer_is : (w : List ℕ) → text (family_lines w Steps) ++ text (log_lines w) ++ text (family_lines w Tables) ++ text (family_lines w Counters) ≡ text (answer_lines w)
 unfolding answer_lines
-answer_is w t =
-    let s = family_lines w Steps in
-    let l = log_lines w in
-    let ts = family_lines w Tables in
-    let cs = family_lines w Counters in
-    sym (text_then (s ++ l ++ ts) cs t ∙ ap (appended (text cs)) (text_then (s ++ l) ts t ∙ ap (appended (text ts)) (text_then s l t)))
+answer_is w = simp text_append

@@ -1,7 +1,6 @@
 -- What an outcome's lines are, and what another arrangement of the tables' rows leaves as it was; `proofs/Prints` shows of any outcome that the engine may return that its lines are those that the book prints.
-use Rattle.std.specs.Prelude.{ℕ, zero, suc, ◌≤◌, ◌≡◌, refl, List, [], ◌∷◌}
+use Rattle.std.specs.Prelude.{ℕ, zero, suc, ◌≤◌, ◌≡◌, refl, List, [], ◌∷◌, Option, None, Some}
 use Rattle.std.proofs.Common.{sym, ap, ◌∙◌, arith}
-use Rattle.std.proofs.Math.Option.{Option, none, some}
 use Rattle.std.proofs.Math.ListN.{length}
 use Rattle.model.specs.Basics.{All}
 use Rattle.model.specs.Book.Syntax.{Table, table_at}
@@ -95,22 +94,22 @@ module _ (l : Lent) (book : List ℕ) where
         size = s.size ∙ alike_size (commit_alike log ts 0 r.table) r.kind ∙ alike_size (arranged_alike (committed l book) us h r.table) r.kind;
       }
 
-  pub refused_printed : (r : Refusal) → refusal l book ≡ some r → refused_line r.number r.place ∷ [] ≡ printed l book
+  pub refused_printed : (r : Refusal) → refusal l book ≡ Some r → refused_line r.number r.place ∷ [] ≡ printed l book
   unfolding printed
   refused_printed r e = rw e
 
-  pub outcome_refused : (r : Refusal) → refusal l book ≡ some r → outcome l book ≡ refused r
+  pub outcome_refused : (r : Refusal) → refusal l book ≡ Some r → outcome l book ≡ refused r
   unfolding outcome
   outcome_refused r e = rw e
 
-  pub outcome_accepted : refusal l book ≡ none → outcome l book ≡ accepted (answer (committed l book) (left l book))
+  pub outcome_accepted : refusal l book ≡ None → outcome l book ≡ accepted (answer (committed l book) (left l book))
   unfolding outcome
   outcome_accepted e = rw e
 
   -- an accepted book draws no refusal
-  pub unrefused : (ws : List ℕ) → outcome l book ≡ accepted ws → refusal l book ≡ none
+  pub unrefused : (ws : List ℕ) → outcome l book ≡ accepted ws → refusal l book ≡ None
   unrefused ws a = by (refusal l book) refl
     where
-      by : (x : Option Refusal) → refusal l book ≡ x → refusal l book ≡ none
-      by none e = e
-      by (some q) e = let z : ◌≡◌ {A = ℕ} 0 1 = clash (sym a ∙ outcome_refused q e) in absurd (omega arith)
+      by : (x : Option Refusal) → refusal l book ≡ x → refusal l book ≡ None
+      by None e = e
+      by (Some q) e = let z : ◌≡◌ {A = ℕ} 0 1 = clash (sym a ∙ outcome_refused q e) in absurd (omega arith)

@@ -1,10 +1,11 @@
-use Rattle.std.specs.Prelude.{ℕ, zero, suc, ◌+◌, ◌-◌, ◌*◌, ◌/◌, ◌%◌, ◌^◌, ◌<◌, ◌≤◌, ◌≡◌, refl, List, [], ◌∷◌, ◌++◌, length, get_or, drop}
-use Rattle.std.proofs.Common.{sym, ap, ◌∙◌, append_assoc, append-nil, pow-suc, add-one, arith, lt-ltb, le-ltb, drop-cons}
+use Rattle.std.specs.Prelude.{ℕ, zero, suc, ◌+◌, ◌-◌, ◌*◌, ◌/◌, ◌%◌, ◌^◌, ◌<◌, ◌≤◌, ◌≡◌, refl, List, [], ◌∷◌, ◌++◌, length, get_or, take}
+use Rattle.std.proofs.Common.{sym, ap, ◌∙◌, append_assoc, append-nil, pow-suc, arith, lt-ltb, le-ltb}
+use Rattle.std.proofs.lemmas.List.{take_more}
 use Rattle.std.proofs.Math.Nat.{one-le-pow, pow-le-pow_right}
 use Rattle.std.proofs.Math.Decide.{dec_lt}
 use Rattle.io.specs.Digits.{last_digits as placed, IsDigitCount}
-use Rattle.model.specs.Printed.{Line, refused}
-use Rattle.report.specs.Text.{digits, field, fields, named, refused_name, at_name, line_bytes, text, Text, pushed, appended}
+use Rattle.model.specs.Printed.{Line}
+use Rattle.report.specs.Text.{digits, field, fields, named, line_bytes, text, Text, pushed, appended}
 
 -- Laws of text in a buffer, and of numbers in base ten.
 
@@ -24,32 +25,19 @@ pub text_one : (l : Line) → text (l ∷ []) ≡ line_bytes l
 unfolding text
 text_one l = append-nil (line_bytes l)
 
+pub fields_append : (a b : List ℕ) → fields (a ++ b) ≡ fields a ++ fields b
+unfolding fields
+fields_append [] b = refl
+fields_append (n ∷ a) b = ap (λ (l : List ℕ). field n ++ l) (fields_append a b) ∙ sym (append_assoc (field n) (fields a) (fields b))
+
+pub fields_more : (ns : List ℕ) (i : ℕ) → i < length ns → fields (take i ns) ++ field (get_or ns i 0) ≡ fields (take (i + 1) ns)
+unfolding fields
+fields_more ns i h = rw (take_more ns i 0 h) (sym (fields_append (take i ns) (get_or ns i 0 ∷ []) ∙ ap (λ (l : List ℕ). fields (take i ns) ++ l) (append-nil (field (get_or ns i 0)))))
+
 -- a line, piece by piece
-pub line_is : (name : List ℕ) (n : ℕ) (ns : List ℕ) (t : Text) → appended (named name (n ∷ ns)) t ≡ pushed 10 (appended (fields ns) (appended (field n) (appended name t)))
-unfolding appended fields
-line_is name n ns t =
-    appended_append (name ++ fields (n ∷ ns)) (10 ∷ []) t
-    ∙ ap (pushed 10) (appended_append name (fields (n ∷ ns)) t ∙ appended_append (field n) (fields ns) (appended name t))
-
-pub refused_is : (n p : ℕ) (t : Text) → appended (text (refused n p ∷ [])) t ≡ pushed 10 (appended (field p) (appended at_name (appended (field n) (appended refused_name t))))
-unfolding appended line_bytes
-refused_is n p t =
-    let a = refused_name ++ field n in
-    rw (text_one (refused n p)) (appended_append (a ++ at_name ++ field p) (10 ∷ []) t)
-    ∙ ap (pushed 10) (appended_append (a ++ at_name) (field p) t ∙ ap (appended (field p)) (appended_append a at_name t ∙ ap (appended at_name) (appended_append refused_name (field n) t)))
-
--- the buffer after one more of the bytes that are left; after one more of the numbers
-module _ (l : List ℕ) (i : ℕ) (h : i < length l) (t : Text) where
-  next : drop i l ≡ get_or l i 0 ∷ drop (i + 1) l
-  next = rw add-one (drop-cons l i 0 h)
-
-  pub byte_more : appended (drop i l) t ≡ appended (drop (i + 1) l) (pushed (get_or l i 0) t)
-  unfolding appended
-  byte_more = rw next
-
-  pub field_more : appended (fields (drop i l)) t ≡ appended (fields (drop (i + 1) l)) (appended (field (get_or l i 0)) t)
-  unfolding fields
-  field_more = rw next (appended_append (field (get_or l i 0)) (fields (drop (i + 1) l)) t)
+pub line_is : (name : List ℕ) (n : ℕ) (ns : List ℕ) → name ++ field n ++ fields ns ++ (10 ∷ []) ≡ named name (n ∷ ns)
+unfolding fields
+line_is name n ns = ap (λ (l : List ℕ). l ++ (10 ∷ [])) (append_assoc name (field n) (fields ns))
 
 -- ## Base ten
 
@@ -68,8 +56,8 @@ decimal_is (suc d) (suc (suc r)) n f h =
     let high : n < 10 ^ suc (suc r) = f.1 in
     let tens : 10 ^ suc r ≡ 10 ^ r * 10 = pow-suc 10 r in
     let more : 10 ^ suc (suc r) ≡ 10 ^ suc r * 10 = pow-suc 10 (suc r) in
-    let some : 0 < 10 ^ r = one-le-pow r 10 (omega arith) in
-    let few : IsDigitCount 10 1 (n / 10) (suc r) = (omega arith, omega arith, λ _. let none : suc r - 1 ≡ r = omega arith in rw none (omega arith)) in
+    let Some : 0 < 10 ^ r = one-le-pow r 10 (omega arith) in
+    let few : IsDigitCount 10 1 (n / 10) (suc r) = (omega arith, omega arith, λ _. let None : suc r - 1 ≡ r = omega arith in rw None (omega arith)) in
     let last : n % 10 < 10 = omega arith in
     let many : 10 ≤ n = omega arith in
     rw (le-ltb n 10 many, lt-ltb (n % 10) 10 last) (ap (λ (l : List ℕ). l ++ ((48 + n % 10) ∷ [])) (decimal_is d (suc r) (n / 10) few (omega arith)))

@@ -10,24 +10,29 @@ ghost use Rattle.report.specs.Text.{text as Text·text, up_to, appended};
 ghost use Rattle.report.specs.Lines.{answer_lines};
 
 use lines::Family;
+use text::Page;
 
 // The lines of an answer's words, from the byte `at` on: steps, log, flag, tables, counters.
 pub fn accepted(words: &[u32], out: &mut [u8], at: usize) -> usize
     ensures { up_to out.new result ≡ appended (Text·text (answer_lines words.now)) (up_to out.old at) }
 {
-    let at = lines::numbered(words, Family::Steps, out, at);
-    let at = lines::log(words, out, at);
-    let at = lines::numbered(words, Family::Tables, out, at);
-    lines::numbered(words, Family::Counters, out, at)
+    let mut page = Page { out, at };
+    lines::numbered(words, Family::Steps, &mut page);
+    lines::log(words, &mut page);
+    lines::numbered(words, Family::Tables, &mut page);
+    lines::numbered(words, Family::Counters, &mut page);
+    page.at
 }
 
 // The line of a refusal.
 pub fn refused(number: u32, place: usize, out: &mut [u8], at: usize) -> usize
     ensures { up_to out.new result ≡ appended (Text·text (Line·refused number place ∷ [])) (up_to out.old at) }
 {
-    let at = text::append(out, at, b"refused");
-    let at = text::number(out, at, number as u64);
-    let at = text::append(out, at, b" at");
-    let at = text::number(out, at, place as u64);
-    text::push(out, at, b'\n')
+    let mut page = Page { out, at };
+    page.append(b"refused");
+    page.number(u64::from(number));
+    page.append(b" at");
+    page.number(place as u64);
+    page.append(b"\n");
+    page.at
 }

@@ -1,10 +1,22 @@
 // The lines of an answer, read from its words.
-ghost use Rattle.std.specs.Prelude.{◌≡◌, [], ◌∷◌, ◌+◌, ◌-◌, ◌<◌, ◌≤◌, min, length, drop};
-ghost use Rattle.report.specs.Text.{named, text as Text·text, up_to, appended};
-ghost use Rattle.report.specs.Lines.{body_of, entry_line, family_lines, record_line, record_lines, log_lines, Written};
-ghost use Rattle.report.specs.declared.lines.Family.TheVariants.{Steps, Tables, Counters};
+ghost use Rattle.std.specs.Prelude.{◌≡◌, [], ◌∷◌, ◌+◌, ◌<◌, ◌≤◌, length, drop};
+ghost use Rattle.report.specs.Text.{text};
+ghost use Rattle.report.specs.Lines.{body_of, entry_line, family_lines, record_line, record_lines, log_lines};
+ghost use Rattle.report.specs.Page.{Appends, Written};
 
-use crate::text;
+use crate::text::Page;
+
+// The kinds of a body that has a line of its own.
+const TABLE: u32 = 1;
+
+const COUNTER: u32 = 2;
+
+const BATCH: u32 = 6;
+
+const PREDICTION: u32 = 7;
+
+// The kind of a record that removes a row.
+const REMOVAL: u32 = 1;
 
 // The entries whose lines stand together, numbered from 0.
 #[derive(Clone, Copy)]
@@ -14,168 +26,83 @@ pub enum Family {
     Counters,
 }
 
-// How many lines there are, and where the next byte goes.
-#[derive(Clone, Copy)]
-pub struct Lines {
-    pub count: usize,
-    pub at: usize,
-}
-
-fn least(a: usize, b: usize) -> usize
-    ensures { result ≡ min a b }
-{
-    if a < b { a } else { b }
-}
-
 // The words of entry i's body, as far as they are there.
 fn body(words: &[u32], i: usize) -> &[u32]
     requires { i < 4294967296 }
     ensures { result.now ≡ body_of words.now i }
 {
-    let first = words::size(words::word(words, 2 + 3 * i));
-    let count = words::size(words::word(words, 3 + 3 * i));
-    let from = least(first, words.len());
-    let end = least(first + count, words.len());
-    &words[from..end]
+    let first = words::size_at(words, 2 + 3 * i);
+    let count = words::size_at(words, 3 + 3 * i);
+    words::part(words, first, count)
 }
 
 // The words past the first.
 fn rest(words: &[u32]) -> &[u32]
     ensures { result.now ≡ drop 1 words.now }
 {
-    let from = least(1, words.len());
-    &words[from..]
+    words.get(1..).unwrap_or(&[])
 }
 
-// A line of two numbers: how many lines there were, and `second`.
-fn pair(out: &mut [u8], lines: Lines, name: &[u8], second: u32) -> Lines
-    requires { lines.count < 4294967296 }
-    ensures text { up_to out.new result.at ≡ appended (named name.now (lines.count ∷ second ∷ []))
-        (up_to out.old lines.at) }
-    ensures count { result.count ≡ lines.count + 1 }
+// The line of entry i, if it is one of the family's; `number` such lines stand before it. Answers how many there are then.
+fn entry(words: &[u32], family: Family, i: usize, number: usize, page: &mut Page) -> usize
+    requires { (i < 4294967296) × (number ≤ i) }
+    ensures { Written page.new result (entry_line words.now family number i) page.old number }
 {
-    let numbers = [second];
-    let at = text::line(out, lines.at, name, text::wide(lines.count), &numbers);
-    Lines {
-        count: lines.count + 1,
-        at,
-    }
-}
-
-// The line of entry i, if it is a batch or a prediction.
-fn step(words: &[u32], i: usize, out: &mut [u8], lines: Lines) -> Lines
-    requires { (i < 4294967296) × (lines.count ≤ i) }
-    ensures { Written out.new result (entry_line words.now Steps lines.count i) out.old lines }
-{
-    let kind = words::word(words, 1 + 3 * i);
     let body = body(words, i);
-    if kind == 6 {
-        return pair(out, lines, b"run", words::word(body, 0));
+    let first = number as u64;
+    match (family, words::word(words, 1 + 3 * i)) {
+        (Family::Steps, BATCH) => page.line(b"run", first, &[words::word(body, 0)]),
+        (Family::Steps, PREDICTION) => page.line(b"row", first, rest(body)),
+        (Family::Tables, TABLE) => page.line(b"table", first, &[words::word(body, 3)]),
+        (Family::Counters, COUNTER) => page.line(b"counter", first, &[words::word(body, 0)]),
+        _ => return number,
     }
-    if kind == 7 {
-        let at = text::line(out, lines.at, b"row", text::wide(lines.count), rest(body));
-        return Lines {
-            count: lines.count + 1,
-            at,
-        };
-    }
-    lines
+    number + 1
 }
 
-// If it is a table.
-fn table(words: &[u32], i: usize, out: &mut [u8], lines: Lines) -> Lines
-    requires { (i < 4294967296) × (lines.count ≤ i) }
-    ensures { Written out.new result (entry_line words.now Tables lines.count i) out.old lines }
+// The lines of all entries of a family.
+pub fn numbered(words: &[u32], family: Family, page: &mut Page)
+    ensures { Appends page.old page.new (text (family_lines words.now family)) }
 {
-    if words::word(words, 1 + 3 * i) == 1 {
-        pair(out, lines, b"table", words::word(body(words, i), 3))
-    } else {
-        lines
+    let mut number = 0;
+    for i in 0..words::size_at(words, 0) {
+        number = entry(words, family, i, number, page);
     }
-}
-
-// If it is a counter.
-fn counter(words: &[u32], i: usize, out: &mut [u8], lines: Lines) -> Lines
-    requires { (i < 4294967296) × (lines.count ≤ i) }
-    ensures { Written out.new result (entry_line words.now Counters lines.count i) out.old lines }
-{
-    if words::word(words, 1 + 3 * i) == 2 {
-        pair(out, lines, b"counter", words::word(body(words, i), 0))
-    } else {
-        lines
-    }
-}
-
-fn entry(words: &[u32], family: Family, i: usize, out: &mut [u8], lines: Lines) -> Lines
-    requires { (i < 4294967296) × (lines.count ≤ i) }
-    ensures { Written out.new result (entry_line words.now family lines.count i) out.old lines }
-{
-    match family {
-        Family::Steps => step(words, i, out, lines),
-        Family::Tables => table(words, i, out, lines),
-        Family::Counters => counter(words, i, out, lines),
-    }
-}
-
-// The lines of all entries of a family, from the byte `at` on.
-pub fn numbered(words: &[u32], family: Family, out: &mut [u8], at: usize) -> usize
-    ensures { up_to out.new result ≡ appended (Text·text (family_lines words.now family))
-        (up_to out.old at) }
-{
-    let n = words::size(words::word(words, 0));
-    let mut lines = Lines { count: 0, at };
-    let mut i = 0;
-    while i < n {
-        lines = entry(words, family, i, out, lines);
-        i += 1;
-    }
-    lines.at
 }
 
 // The line of the record at p, whose words end before `end`.
-fn record_line(log: &[u32], p: usize, end: usize, out: &mut [u8], at: usize) -> usize
+fn record_line(log: &[u32], p: usize, end: usize, page: &mut Page)
     requires { (p + 2 ≤ end) × (end ≤ length log.now) }
-    ensures { up_to out.new result ≡ appended (Text·text (record_line log.now p end ∷ []))
-        (up_to out.old at) }
+    ensures { Appends page.old page.new (text (record_line log.now p end ∷ [])) }
 {
-    let table = text::wide_word(words::word(log, p + 1));
+    let table = u64::from(words::word(log, p + 1));
     let row = &log[p + 2..end];
-    if words::word(log, p) == 1 {
-        text::line(out, at, b"del", table, row)
+    if words::word(log, p) == REMOVAL {
+        page.line(b"del", table, row);
     } else {
-        text::line(out, at, b"ins", table, row)
+        page.line(b"ins", table, row);
     }
 }
 
 // The lines of all records.
-fn records(words: &[u32], log: &[u32], out: &mut [u8], at: usize) -> usize
-    ensures { up_to out.new result ≡ appended (Text·text (record_lines words.now log.now))
-        (up_to out.old at) }
+fn records(words: &[u32], log: &[u32], page: &mut Page)
+    ensures { Appends page.old page.new (text (record_lines words.now log.now)) }
 {
-    let mut next = at;
     let mut p = 0;
     let mut end = record_log::end_of(words, log, 0);
     while end <= log.len() {
-        next = record_line(log, p, end, out, next);
+        record_line(log, p, end, page);
         p = end;
         end = record_log::end_of(words, log, p);
     }
-    next
-}
-
-fn before(n: usize) -> usize
-    ensures { (result ≡ n - 1) × (result ≤ n) }
-{
-    if n == 0 { 0 } else { n - 1 }
 }
 
 // The records' lines and the flag's.
-pub fn log(words: &[u32], out: &mut [u8], at: usize) -> usize
-    ensures { up_to out.new result ≡ appended (Text·text (log_lines words.now)) (up_to out.old at) }
+pub fn log(words: &[u32], page: &mut Page)
+    ensures { Appends page.old page.new (text (log_lines words.now)) }
 {
-    let n = words::size(words::word(words, 0));
-    let body = body(words, before(n));
-    let next = records(words, rest(body), out, at);
-    let flag = text::wide_word(words::word(body, 0));
-    text::line(out, next, b"changed", flag, &body[..0])
+    let count = words::size_at(words, 0);
+    let body = body(words, count.saturating_sub(1));
+    records(words, rest(body), page);
+    page.line(b"changed", u64::from(words::word(body, 0)), &[]);
 }

@@ -1,74 +1,50 @@
-// Bytes, numbers and lines, written into a buffer from the byte `at` on. Each function answers where the next byte goes.
+// Bytes, numbers and lines, written one after the other into a buffer that is lent.
 ghost use Rattle.std.specs.Prelude.{◌≡◌, ◌∷◌};
-ghost use Rattle.report.specs.Text.{field, fields, named, up_to, pushed, appended};
+ghost use Rattle.report.specs.Text.{field, fields, named};
+ghost use Rattle.report.specs.Page.{Appends};
 
-// One byte, if it has room.
-pub fn push(out: &mut [u8], at: usize, b: u8) -> usize
-    ensures { up_to out.new result ≡ pushed b (up_to out.old at) }
-{
-    if at < out.len() {
-        out[at] = b;
-        at + 1
-    } else {
-        at
+// A buffer, and where the next byte goes. What has no room there is left out.
+#[derive(Drop)]
+pub struct Page<'a> {
+    pub out: &'a mut [u8],
+    pub at: usize,
+}
+
+impl Page<'_> {
+    pub fn append(&mut self, bytes: &[u8])
+        ensures { Appends self.old self.new bytes.now }
+    {
+        let from = self.at.min(self.out.len());
+        let n = bytes.len().min(self.out.len() - from);
+        self.out[from..from + n].copy_from_slice(&bytes[..n]);
+        self.at += n;
     }
-}
 
-pub fn append(out: &mut [u8], at: usize, bytes: &[u8]) -> usize
-    ensures { up_to out.new result ≡ appended bytes.now (up_to out.old at) }
-{
-    let n = bytes.len();
-    let mut next = at;
-    let mut i = 0;
-    while i < n {
-        next = push(out, next, bytes[i]);
-        i += 1;
+    // A blank and a number.
+    pub fn number(&mut self, n: u64)
+        ensures { Appends self.old self.new (field n) }
+    {
+        let mut digits = [0u8; 20];
+        let k = io::decimal(n, &mut digits);
+        self.append(b" ");
+        self.append(&digits[..k]);
     }
-    next
-}
 
-// A blank and a number.
-pub fn number(out: &mut [u8], at: usize, n: u64) -> usize
-    ensures { up_to out.new result ≡ appended (field n) (up_to out.old at) }
-{
-    let mut digits = [0u8; 20];
-    let k = io::decimal(n, &mut digits);
-    let next = push(out, at, b' ');
-    append(out, next, &digits[..k])
-}
-
-pub fn wide(x: usize) -> u64
-    ensures { result ≡ x }
-{
-    x as u64
-}
-
-pub fn wide_word(x: u32) -> u64
-    ensures { result ≡ x }
-{
-    x as u64
-}
-
-pub fn numbers(out: &mut [u8], at: usize, ns: &[u32]) -> usize
-    ensures { up_to out.new result ≡ appended (fields ns.now) (up_to out.old at) }
-{
-    let n = ns.len();
-    let mut next = at;
-    let mut i = 0;
-    while i < n {
-        next = number(out, next, wide_word(ns[i]));
-        i += 1;
+    fn numbers(&mut self, ns: &[u32])
+        ensures { Appends self.old self.new (fields ns.now) }
+    {
+        for n in ns {
+            self.number(u64::from(*n));
+        }
     }
-    next
-}
 
-// A line: its name, a number, further numbers.
-pub fn line(out: &mut [u8], at: usize, name: &[u8], first: u64, rest: &[u32]) -> usize
-    ensures { up_to out.new result ≡ appended (named name.now (first ∷ rest.now))
-        (up_to out.old at) }
-{
-    let next = append(out, at, name);
-    let next = number(out, next, first);
-    let next = numbers(out, next, rest);
-    push(out, next, b'\n')
+    // A line: its name, a number, further numbers.
+    pub fn line(&mut self, name: &[u8], first: u64, rest: &[u32])
+        ensures { Appends self.old self.new (named name.now (first ∷ rest.now)) }
+    {
+        self.append(name);
+        self.number(first);
+        self.numbers(rest);
+        self.append(b"\n");
+    }
 }

@@ -1,12 +1,10 @@
 -- A rule of a book that can be read, instruction by instruction, and all rules.
-use Rattle.std.specs.Prelude.{ℕ, zero, suc, ◌+◌, ◌<◌, ◌≤◌, ◌≡◌, Bool, true, false, ◌||◌, length, get_or}
+use Rattle.std.specs.Prelude.{ℕ, zero, suc, ◌+◌, ◌<◌, ◌≤◌, ◌≡◌, Bool, true, false, ◌||◌, length, get_or, Option, None, Some, slice_get, Result, Ok, Err, is_err}
 use Rattle.std.proofs.Math.Path.{refl, sym, fun_ext}
 use Rattle.std.proofs.Common.{ap, ◌∙◌, add-one}
-use Rattle.std.proofs.Math.Option.{Option, none, some}
 use mathlib.Core.List.{List, [], ◌∷◌}
 use Rattle.std.proofs.Math.Nat.{le_refl}
 use native.Mathlib.Omega.{arith}
-use Rattle.std.proofs.Math.ListN.{get_elem?}
 use Rattle.model.specs.Basics.{◌else◌, tab}
 use Rattle.model.specs.Book.Syntax.{Instr, dst_of, Rule}
 use Rattle.model.specs.Book.Layout.{Field, table, counter, function, dst, column, divider, entry, entries, writes}
@@ -23,10 +21,10 @@ use Rattle.instr.specs.declared.Instr as code
 use Rattle.instr.specs.Instr.{instr_at}
 use Rattle.instr.specs.Meaning.{instr_of}
 use Rattle.instr.specs.InstrLaws.{instr_at_lem}
-use Rattle.rules.specs.declared.Checking.{Checking}
-use Rattle.rules.specs.declared.Checking.TheVariants.{Pass, Size, Unbound, HeldOut, Column}
+use Rattle.refusal.specs.declared.Refusal.{Refusal as Fault}
+use Rattle.refusal.specs.Refusal.{told, refusal_of}
 use Rattle.bound_vars.specs.declared.Bound.{Bound}
-use Rattle.rules.specs.Rules.{refusal_of, is_refusal, placed_at}
+use Rattle.rules.specs.Rules.{placed_at}
 use Rattle.bound_vars.specs.Bound.{has, first_bound, binding}
 use Rattle.model.specs.Laws.Book.{Readable}
 use Rattle.instr.specs.Stands.{Stands, binds_of}
@@ -37,31 +35,25 @@ use Rattle.instr.specs.StandsLaws.{binds, binds_variable}
 
 -- ## What an answer says
 
-pub not_refused : (c : Checking) → is_refusal c ≡ false → refusal_of c ≡ none
-not_refused Pass e = refl
-not_refused (Size p) e = let z : ◌≡◌ {A = ℕ} 0 1 = cc in absurd (omega arith)
-not_refused (Unbound p) e = let z : ◌≡◌ {A = ℕ} 0 1 = cc in absurd (omega arith)
-not_refused (HeldOut p) e = let z : ◌≡◌ {A = ℕ} 0 1 = cc in absurd (omega arith)
-not_refused (Column p) e = let z : ◌≡◌ {A = ℕ} 0 1 = cc in absurd (omega arith)
+pub not_refused : {A : Type 0} (c : Result A Fault) → is_err c ≡ false → refusal_of c ≡ None
+not_refused (Ok a) e = refl
+not_refused (Err r) e = let z : ◌≡◌ {A = ℕ} 0 1 = cc in absurd (omega arith)
 
-pub refused : (c : Checking) → is_refusal c ≡ true → (a : Refusal) × (refusal_of c ≡ some a)
-refused Pass e = let z : ◌≡◌ {A = ℕ} 0 1 = cc in absurd (omega arith)
-refused (Size p) e = (record { number = 8; place = p }, refl)
-refused (Unbound p) e = (record { number = 7; place = p }, refl)
-refused (HeldOut p) e = (record { number = 10; place = p }, refl)
-refused (Column p) e = (record { number = 9; place = p }, refl)
+pub refused : {A : Type 0} (c : Result A Fault) → is_err c ≡ true → (a : Refusal) × (refusal_of c ≡ Some a)
+refused (Ok a) e = let z : ◌≡◌ {A = ℕ} 0 1 = cc in absurd (omega arith)
+refused (Err r) e = (told r, refl)
 
 -- ## Lists by an index
 
-elem_get_or : {A : Type 0} (xs : List A) (j : ℕ) (d x : A) → get_elem? xs j ≡ some x → get_or xs j d ≡ x
+elem_get_or : {A : Type 0} (xs : List A) (j : ℕ) (d x : A) → slice_get xs j ≡ Some x → get_or xs j d ≡ x
 elem_get_or [] j d x e = absurd (none_some e)
 elem_get_or (y ∷ xs) zero d x e = some_inj e
 elem_get_or (y ∷ xs) (suc j) d x e = elem_get_or xs j d x e
 
-pub at_tab : {A : Type 0} (f : ℕ → A) (n j : ℕ) → j < n → get_elem? (tab f n) j ≡ some (f j)
+pub at_tab : {A : Type 0} (f : ℕ → A) (n j : ℕ) → j < n → slice_get (tab f n) j ≡ Some (f j)
 at_tab f n j l =
     let p = at_length (tab f n) j (omega (arith, length_tab f n)) in
-    p.1 ∙ ap some (sym (elem_get_or (tab f n) j p.0 p.0 p.1) ∙ get_or_tab f n j p.0 l)
+    p.1 ∙ ap Some (sym (elem_get_or (tab f n) j p.0 p.0 p.1) ∙ get_or_tab f n j p.0 l)
 
 -- ## Places
 
@@ -114,9 +106,9 @@ module _ (w : List ℕ) (r : ℕ) where
   drawn j = check_instr (tables w) arity (bound? rule_of j) (ins j)
 
   abbrev pub Passed : ℕ → Type 0
-  Passed j = (k : ℕ) → k < j → check_at (tables w) arity rule_of k ≡ none
+  Passed j = (k : ℕ) → k < j → check_at (tables w) arity rule_of k ≡ None
 
-  instr_j : (j : ℕ) → j < many → get_elem? rule_of.instrs j ≡ some (ins j)
+  instr_j : (j : ℕ) → j < many → slice_get rule_of.instrs j ≡ Some (ins j)
   unfolding decode.read_rule
   instr_j j m = at_tab ins many j m
 
@@ -127,7 +119,7 @@ module _ (w : List ℕ) (r : ℕ) where
   check_here : (j : ℕ) → j < many → check_at (tables w) arity rule_of j ≡ placed j (drawn j)
   check_here j m = rw (instr_j j m)
 
-  pub rule_end : Passed many → none ≡ rule_refusal w r
+  pub rule_end : Passed many → None ≡ rule_refusal w r
   unfolding rule_refusal check decode.read_rule
   rule_end p = sym (rw (none_first_some (check_at (tables w) arity rule_of) (length rule_of.instrs) (λ i m. p i (omega (arith, length_tab ins many)))))
 
@@ -169,46 +161,44 @@ module _ {w : List ℕ} {r j p : ℕ} {i : code.Instr} (x : At w r j p i) where
         fun_ext (λ v. has_binding (binds_of i) b (binds_variable w i stands_here) n v ∙ ap (λ (f : ℕ → Bool). f v || is_dst (binds_of i) v) known ∙ rw (d, add-one) (sym (bound_suc w r j v x.below)))
 
     -- the answer
-    module _ (c : Checking) (drew : refusal_of c ≡ placed_at p (check_instr (tables w) arity (has b) (instr_of w i))) where
+    module _ {A : Type 0} (c : Result A Fault) (drew : refusal_of c ≡ placed_at p (check_instr (tables w) arity (has b) (instr_of w i))) where
       as_drawn : refusal_of c ≡ placed_at (place_of w r j) (drawn w r j)
       as_drawn = drew ∙ rw (known, meant, x.place)
 
-      pub rule_on : is_refusal c ≡ false → check_at (tables w) arity (rule_of w r) j ≡ none
+      pub rule_on : is_err c ≡ false → check_at (tables w) arity (rule_of w r) j ≡ None
       rule_on e = check_here w r j x.below ∙ by (drawn w r j) (sym as_drawn ∙ not_refused c e)
         where
-          by : (o : Option ℕ) → placed_at (place_of w r j) o ≡ none → placed j o ≡ none
-          by none q = refl
-          by (some y) q = absurd (none_some (sym q))
+          by : (o : Option ℕ) → placed_at (place_of w r j) o ≡ None → placed j o ≡ None
+          by None q = refl
+          by (Some y) q = absurd (none_some (sym q))
 
-      pub rule_stop : is_refusal c ≡ true → Passed w r j → refusal_of c ≡ rule_refusal w r
+      pub rule_stop : is_err c ≡ true → Passed w r j → refusal_of c ≡ rule_refusal w r
       unfolding rule_refusal check decode.read_rule
       rule_stop e before = as_drawn ∙ by (drawn w r j) refl
         where
           by : (o : Option ℕ) → drawn w r j ≡ o → placed_at (place_of w r j) o ≡ rule_refusal w r
-          by none q = absurd (none_some (sym (as_drawn ∙ rw q) ∙ (refused c e).1))
-          by (some y) q = sym (rw (some_first_some (check_at (tables w) arity (rule_of w r)) (length (rule_of w r).instrs) (y, j) (record { index = j; below = omega (arith, x.below, length_tab (ins w r) (many w r)); here = check_here w r j x.below ∙ rw q; before = before })))
+          by None q = absurd (none_some (sym (as_drawn ∙ rw q) ∙ (refused c e).1))
+          by (Some y) q = sym (rw (some_first_some (check_at (tables w) arity (rule_of w r)) (length (rule_of w r).instrs) (y, j) (record { index = j; below = omega (arith, x.below, length_tab (ins w r) (many w r)); here = check_here w r j x.below ∙ rw q; before = before })))
 
 -- ## All rules
 
 module _ (w : List ℕ) where
-  pub rules_stop : (r : ℕ) (c : Checking) → r < rule_count w → ((k : ℕ) → k < r → rule_refusal w k ≡ none) → is_refusal c ≡ true → refusal_of c ≡ rule_refusal w r → refusal_of c ≡ rules_refusal w
+  pub rules_stop : (r : ℕ) (e : Fault) → r < rule_count w → ((k : ℕ) → k < r → rule_refusal w k ≡ None) → Some (told e) ≡ rule_refusal w r → Some (told e) ≡ rules_refusal w
   unfolding rules_refusal
-  rules_stop r c l before e is =
-      let a = refused c e in
-      a.1 ∙ sym (some_first_some (rule_refusal w) (rule_count w) a.0 (record { index = r; below = l; here = sym is ∙ a.1; before = before }))
+  rules_stop r e l before is = sym (some_first_some (rule_refusal w) (rule_count w) (told e) (record { index = r; below = l; here = sym is; before = before }))
 
-  pub rules_end : ((k : ℕ) → k < rule_count w → rule_refusal w k ≡ none) → none ≡ rules_refusal w
+  pub rules_end : ((k : ℕ) → k < rule_count w → rule_refusal w k ≡ None) → None ≡ rules_refusal w
   unfolding rules_refusal
   rules_end h = sym (none_first_some (rule_refusal w) (rule_count w) h)
 
 -- ## Rules, and then what comes next
 
-module _ (o next : Option Refusal) (c : Checking) (is : refusal_of c ≡ o) where
-  pub else_stop : is_refusal c ≡ true → o ≡ (o else λ _. next)
-  else_stop e = let a = refused c e in rw (sym is ∙ a.1)
+module _ (o next : Option Refusal) where
+  pub else_stop : (e : Fault) → Some (told e) ≡ o → Some (told e) ≡ (o else λ _. next)
+  else_stop e is = rw (← is)
 
-  pub else_on : is_refusal c ≡ false → next ≡ (o else λ _. next)
-  else_on e = rw (sym is ∙ not_refused c e)
+  pub else_on : None ≡ o → next ≡ (o else λ _. next)
+  else_on is = rw (← is)
 
 -- ## What comes before the rules
 
@@ -216,17 +206,17 @@ module _ (w : List ℕ) where
   abbrev pub read_refusal : Option Refusal
   read_refusal = contents_refusal w else λ _. bodies_refusal w
 
-  pub words_stop : (a : Refusal) → some a ≡ read_refusal → some a ≡ words_refusal w
+  pub words_stop : (a : Refusal) → Some a ≡ read_refusal → Some a ≡ words_refusal w
   unfolding words_refusal
   words_stop a e = by (contents_refusal w) (bodies_refusal w) e
     where
-      by : (o p : Option Refusal) → some a ≡ (o else λ _. p) → some a ≡ (o else λ _. p else λ _. rules_refusal w else λ _. steps_refusal w)
-      by none none q = absurd (none_some (sym q))
-      by none (some b) q = q
-      by (some b) p q = q
+      by : (o p : Option Refusal) → Some a ≡ (o else λ _. p) → Some a ≡ (o else λ _. p else λ _. rules_refusal w else λ _. steps_refusal w)
+      by None None q = absurd (none_some (sym q))
+      by None (Some b) q = q
+      by (Some b) p q = q
 
-  module _ (e : none ≡ read_refusal) where
-    pub none_read : (contents_refusal w ≡ none) × (bodies_refusal w ≡ none)
+  module _ (e : None ≡ read_refusal) where
+    pub none_read : (contents_refusal w ≡ None) × (bodies_refusal w ≡ None)
     none_read = else_none (contents_refusal w) (λ _. bodies_refusal w) (sym e)
 
     pub words_on : (rules_refusal w else λ _. steps_refusal w) ≡ words_refusal w

@@ -1,9 +1,8 @@
 -- Refusal 11, step by step.
-use Rattle.std.specs.Prelude.{ℕ, ◌+◌, ◌*◌, ◌<◌, ◌≤◌, ◌≡◌, true, false, ◌&&◌, ◌||◌, List, eqb, ltb, length}
+use Rattle.std.specs.Prelude.{ℕ, ◌+◌, ◌*◌, ◌<◌, ◌≤◌, ◌≡◌, true, false, ◌&&◌, ◌||◌, List, eqb, ltb, length, None, Some}
 use Rattle.std.proofs.Math.Path.{sym}
 use Rattle.std.proofs.Common.{ap, ◌∙◌, arith}
 use Rattle.std.proofs.Math.Bool.{not}
-use Rattle.std.proofs.Math.Option.{none, some}
 use Rattle.std.proofs.Math.ListN.{get_or}
 use Rattle.model.specs.Book.Contents.{kind_of, first_of, table_count, rule_count, step_count, first_step}
 use Rattle.model.specs.Book.Decode.{part, write_at, read_rule, read_batch, read_prediction, read_step}
@@ -57,10 +56,10 @@ module _ (w : List ℕ) (h : Readable w) (k e at : ℕ) (l : k < step_count w) (
   step_prediction q = rw (place, ← is, q)
 
 module _ (w : List ℕ) where
-  pub steps_stop : (k : ℕ) → k < step_count w → ((i : ℕ) → i < k → step_fits (tables w) (rules w) (step w i) ≡ true) → step_fits (tables w) (rules w) (step w k) ≡ false → some (record { number = 11; place = first_step w + k }) ≡ steps_refusal w
+  pub steps_stop : (k : ℕ) → k < step_count w → ((i : ℕ) → i < k → step_fits (tables w) (rules w) (step w i) ≡ true) → step_fits (tables w) (rules w) (step w k) ≡ false → Some (record { number = 11; place = first_step w + k }) ≡ steps_refusal w
   unfolding steps_refusal
   steps_stop k l before here = sym (rw (some_least (λ k. not (step_fits (tables w) (rules w) (step w k))) (step_count w) k (record { below = l; here = rw here; before = λ j m. rw (before j m) })))
 
-  pub steps_end : ((k : ℕ) → k < step_count w → step_fits (tables w) (rules w) (step w k) ≡ true) → none ≡ steps_refusal w
+  pub steps_end : ((k : ℕ) → k < step_count w → step_fits (tables w) (rules w) (step w k) ≡ true) → None ≡ steps_refusal w
   unfolding steps_refusal
   steps_end h = sym (rw (none_least (λ k. not (step_fits (tables w) (rules w) (step w k))) (step_count w) (λ k l. rw (h k l))))

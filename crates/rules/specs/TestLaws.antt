@@ -1,11 +1,14 @@
 -- Tests of lists that stand in the words, one element at a time.
 use Prim.Native.Nat.{ℕ, zero, suc, ◌+◌, ◌*◌, ◌<◌}
-use Rattle.std.specs.Prelude.{◌≡◌, Bool, true, false, ◌&&◌, List, [], ◌∷◌, ◌++◌, length, get_or}
+use Rattle.std.specs.Prelude.{◌≡◌, Bool, true, false, ◌&&◌, map, List, [], ◌∷◌, ◌++◌, length, get_or}
 use Rattle.std.proofs.Math.Path.{refl}
-use Rattle.std.proofs.Common.{sym, ap, ◌∙◌, add-zero, add-suc, suc-add, arith}
+use Rattle.std.proofs.Common.{sym, ap, ◌∙◌, arith, add-zero, add-suc, suc-add}
+use Rattle.std.specs.List.{list_all, range_with_len}
+use Rattle.std.proofs.lemmas.List.Folds.{list_all-append, list_all-map}
+use Rattle.std.proofs.lemmas.List.FromFn.{map-range_with_len_more}
 use Rattle.std.proofs.Math.Bool.{and-true, and-false, and_assoc}
-use Rattle.model.specs.Basics.{iter, all, tab}
 use Rattle.model.specs.Laws.Logic.{either, le_cases}
+use Rattle.model.specs.Basics.{iter, all, tab}
 use Rattle.model.specs.Laws.Lists.{length_tab}
 use Rattle.model.specs.Book.Syntax.{QueryEntry, Var, Const, WriteVal, Entry, IncCounter, CurrentVal}
 use Rattle.model.specs.Book.Decode as decode
@@ -18,6 +21,16 @@ use Rattle.rules.specs.Rules.{current_fits}
 
 abbrev pub each : (ℕ → Bool) → ℕ → Bool
 each f n = iter (λ i b. b && f i) n true
+
+-- the test of every number of a range
+ranged : (f : ℕ → Bool) (n : ℕ) → list_all (λ b. b) (map f (range_with_len 0 n)) ≡ each f n
+ranged f zero = refl
+ranged f (suc n) =
+    let e : suc n ≡ n + 1 = omega arith in
+    ap (λ (m : ℕ). list_all (λ b. b) (map f (range_with_len 0 m))) e ∙ ap (list_all (λ b. b)) (map-range_with_len_more f 0 n n (omega arith)) ∙ rw (list_all-append, ranged f n, and-true)
+
+pub range_each : (f : ℕ → Bool) (n : ℕ) → list_all f (range_with_len 0 n) ≡ each f n
+range_each f n = sym (list_all-map (λ b. b) f (range_with_len 0 n)) ∙ ranged f n
 
 module _ (f : ℕ → Bool) where
   pub each_yes : (n : ℕ) → ((k : ℕ) → k < n → f k ≡ true) → each f n ≡ true
@@ -89,9 +102,16 @@ unfolding tab
 currents_each c g zero = refl
 currents_each c g (suc n) = rw (currents_append c (tab g n) (g n ∷ []), length_tab g n, all_append, currents_each c g n)
 
--- ## Lists in the words: the element that fails, or none
+-- ## Lists in the words, tested by the number of each element
 
 module _ (w : List ℕ) (l : Entries) where
+  pub entries_all : (f : QueryEntry → Bool) → list_all (λ k. f (decode.entry_at w (l.at + 2 * k))) (range_with_len 0 l.count) ≡ all f (entries_of w l)
+  entries_all f = range_each _ l.count ∙ sym (all_each f (λ k. decode.entry_at w (l.at + 2 * k)) l.count)
+
+  pub currents_all : (n : ℕ) → list_all (λ k. current_fits (n + k) (decode.write_at w (l.at + 2 * k))) (range_with_len 0 l.count) ≡ all check.below? (check.currents_of n (writes_of w l))
+  currents_all n = range_each _ l.count ∙ sym (currents_each n (λ k. decode.write_at w (l.at + 2 * k)) l.count)
+
+  -- the element that fails, or none
   pub entries_no : (f : QueryEntry → Bool) (k : ℕ) → k < l.count → f (decode.entry_at w (l.at + 2 * k)) ≡ false → false ≡ all f (entries_of w l)
   entries_no f k h e = sym (all_each f (λ k. decode.entry_at w (l.at + 2 * k)) l.count ∙ each_no _ l.count k h e)
 

@@ -1,21 +1,23 @@
 // The check of one instruction, and what it binds.
-ghost use Rattle.std.specs.Prelude.{◌≡◌};
-ghost use Rattle.std.proofs.Math.Option.{none};
+ghost use Rattle.std.specs.Prelude.{◌≡◌, None};
 ghost use Rattle.model.specs.Basics.{all};
 ghost use Rattle.model.specs.Book.Read.{tables};
 ghost use Rattle.model.specs.Check as check;
 ghost use Rattle.model.specs.Machine.Functions as functions;
 ghost use Rattle.instr.specs.Meaning.{instr_of};
-ghost use Rattle.rules.specs.Rules.{refusal_of, placed_at};
+ghost use Rattle.refusal.specs.Refusal.{refusal_of};
+ghost use Rattle.rules.specs.Rules.{placed_at};
 ghost use Rattle.bound_vars.specs.Bound.{has, binding};
 ghost use Rattle.model.specs.Laws.Book.{Readable};
 ghost use Rattle.instr.specs.Stands.{Stands, binds_of, IsVariable};
 
-use crate::{Checking, lists, shapes};
+use crate::{lists, shapes};
 use bound_vars::Bound;
 use instr::Instr;
+use refusal::Refusal;
 
 // Refusal 8 is not drawn: its lists are as long as its table and functions ask.
+#[tactic(auto, using(model::specs::Laws::Book::few_tables, model::specs::Laws::Book::table_keys, model::specs::Laws::Book::table_width, crate::specs::TestLaws::count_entries, crate::specs::TestLaws::count_writes), unfolding(instr::specs::Meaning::instr_of, model::specs::Check::sizes_of))]
 fn sizes_fit(words: &[u32], i: Instr) -> bool
     requires { Readable words.now × Stands words.now i }
     ensures { result ≡ all check.fits? (check.sizes_of (tables words.now) functions.arity (instr_of words.now i)) }
@@ -27,20 +29,24 @@ fn sizes_fit(words: &[u32], i: Instr) -> bool
             default,
             ..
         } => {
-            shapes::keys_fit(words, table, args) & shapes::row_fits(words, table, args, default)
+            let shape = shapes::of_table(words, table);
+            args.count == shape.keys && args.count + default.count == shape.width
         }
-        Instr::LookupWithDefault { table, args, .. } => shapes::keys_fit(words, table, args),
-        Instr::Lookup { table, args, .. } => shapes::keys_fit(words, table, args),
+        Instr::LookupWithDefault { table, args, .. } => args.count
+            == shapes::of_table(words, table).keys,
+        Instr::Lookup { table, args, .. } => args.count == shapes::of_table(words, table).keys,
         Instr::LookupWithFallback {
             table,
             table_key,
             func,
             func_args,
             ..
-        } => { shapes::keys_fit(words, table, table_key) & shapes::takes(func, func_args) }
-        Instr::Insert { table, vals } => shapes::width_fits(words, table, vals),
-        Instr::InsertIfEq { table, vals, .. } => shapes::width_fits(words, table, vals),
-        Instr::Remove { table, args } => shapes::keys_fit(words, table, args),
+        } => {
+            table_key.count == shapes::of_table(words, table).keys && shapes::takes(func, func_args)
+        }
+        Instr::Insert { table, vals } => vals.count == shapes::of_table(words, table).width,
+        Instr::InsertIfEq { table, vals, .. } => vals.count == shapes::of_table(words, table).width,
+        Instr::Remove { table, args } => args.count == shapes::of_table(words, table).keys,
         Instr::External { func, args, .. } => shapes::takes(func, args),
         Instr::ExternalWithFallback {
             f1,
@@ -48,7 +54,7 @@ fn sizes_fit(words: &[u32], i: Instr) -> bool
             f2,
             args2,
             ..
-        } => shapes::takes(f1, args1) & shapes::takes(f2, args2),
+        } => shapes::takes(f1, args1) && shapes::takes(f2, args2),
         Instr::AssertEq(..) => true,
         Instr::AssertNe(..) => true,
         Instr::AssertAnyNe { ops, divider } => divider <= ops.count,
@@ -57,16 +63,17 @@ fn sizes_fit(words: &[u32], i: Instr) -> bool
 }
 
 // Refusal 7 is not drawn: every variable that it reads is bound.
+#[tactic(auto, using(crate::specs::TestLaws::all_append, crate::specs::TestLaws::writes_as_entries), unfolding(instr::specs::Meaning::instr_of, model::specs::Check::reads_of))]
 fn reads_known(words: &[u32], i: Instr, bound: Bound) -> bool
     requires { Stands words.now i }
     ensures { result ≡ all (check.known? (has bound)) (check.reads_of (instr_of words.now i)) }
 {
     match i {
         Instr::LookupOrInsertDefault { args, default, .. } => {
-            lists::all_known(words, args, bound) & lists::all_known(words, default, bound)
+            lists::all_known(words, args, bound) && lists::all_known(words, default, bound)
         }
         Instr::LookupWithDefault { args, default, .. } => {
-            lists::known(default, bound) & lists::all_known(words, args, bound)
+            lists::known(default, bound) && lists::all_known(words, args, bound)
         }
         Instr::Lookup { args, .. } => lists::all_known(words, args, bound),
         Instr::LookupWithFallback {
@@ -74,25 +81,26 @@ fn reads_known(words: &[u32], i: Instr, bound: Bound) -> bool
             func_args,
             ..
         } => {
-            lists::all_known(words, table_key, bound) & lists::all_known(words, func_args, bound)
+            lists::all_known(words, table_key, bound) && lists::all_known(words, func_args, bound)
         }
         Instr::Insert { vals, .. } => lists::all_known(words, vals, bound),
         Instr::InsertIfEq { l, r, vals, .. } => lists::known(l, bound)
-            & lists::known(r, bound)
-            & lists::all_known(words, vals, bound),
+            && lists::known(r, bound)
+            && lists::all_known(words, vals, bound),
         Instr::Remove { args, .. } => lists::all_known(words, args, bound),
         Instr::External { args, .. } => lists::all_known(words, args, bound),
         Instr::ExternalWithFallback { args1, args2, .. } => {
-            lists::all_known(words, args1, bound) & lists::all_known(words, args2, bound)
+            lists::all_known(words, args1, bound) && lists::all_known(words, args2, bound)
         }
-        Instr::AssertEq(l, r) => lists::known(l, bound) & lists::known(r, bound),
-        Instr::AssertNe(l, r) => lists::known(l, bound) & lists::known(r, bound),
+        Instr::AssertEq(l, r) => lists::known(l, bound) && lists::known(r, bound),
+        Instr::AssertNe(l, r) => lists::known(l, bound) && lists::known(r, bound),
         Instr::AssertAnyNe { ops, .. } => lists::all_known(words, ops, bound),
         Instr::ReadCounter { .. } => true,
     }
 }
 
 // Refusal 10 is not drawn: what it reads while its dst is held out is not the dst.
+#[tactic(auto, using(crate::specs::TestLaws::all_append, crate::specs::TestLaws::against_all, crate::specs::TestLaws::writes_as_entries), unfolding(instr::specs::Meaning::instr_of, model::specs::Check::held_of))]
 fn held_free(words: &[u32], i: Instr) -> bool
     requires { Stands words.now i }
     ensures { result ≡ all check.free? (check.held_of (instr_of words.now i)) }
@@ -103,7 +111,7 @@ fn held_free(words: &[u32], i: Instr) -> bool
             default,
             dst_var,
             ..
-        } => { lists::all_free(words, args, dst_var) & lists::all_free(words, default, dst_var) }
+        } => { lists::all_free(words, args, dst_var) && lists::all_free(words, default, dst_var) }
         Instr::LookupWithDefault { .. } => true,
         Instr::Lookup { .. } => true,
         Instr::LookupWithFallback {
@@ -124,6 +132,7 @@ fn held_free(words: &[u32], i: Instr) -> bool
 }
 
 // Refusal 9 is not drawn: its column and its current values lie in the row.
+#[tactic(auto, using(model::specs::Laws::Book::few_tables, model::specs::Laws::Book::table_keys, model::specs::Laws::Book::table_width), unfolding(instr::specs::Meaning::instr_of, model::specs::Check::columns_of))]
 fn columns_fit(words: &[u32], i: Instr) -> bool
     requires { Readable words.now × Stands words.now i }
     ensures { result ≡ all check.below?
@@ -136,15 +145,15 @@ fn columns_fit(words: &[u32], i: Instr) -> bool
             dst_col,
             ..
         } => {
-            shapes::column_fits(words, table, dst_col)
-                & lists::currents_fit(words, default, shapes::keys_of(words, table))
+            let shape = shapes::of_table(words, table);
+            shape.has_column(dst_col) && lists::currents_fit(words, default, shape.keys)
         }
-        Instr::LookupWithDefault { table, dst_col, .. } => shapes::column_fits(
-            words, table, dst_col,
-        ),
-        Instr::Lookup { table, dst_col, .. } => shapes::column_fits(words, table, dst_col),
+        Instr::LookupWithDefault { table, dst_col, .. } => {
+            shapes::of_table(words, table).has_column(dst_col)
+        }
+        Instr::Lookup { table, dst_col, .. } => shapes::of_table(words, table).has_column(dst_col),
         Instr::LookupWithFallback { table, dst_col, .. } => {
-            shapes::column_fits(words, table, dst_col)
+            shapes::of_table(words, table).has_column(dst_col)
         }
         Instr::Insert { .. } => true,
         Instr::InsertIfEq { .. } => true,
@@ -158,38 +167,27 @@ fn columns_fit(words: &[u32], i: Instr) -> bool
     }
 }
 
-// The first of 8, 7, 10 and 9 whose test failed.
-fn drawn(p: usize, fit: bool, known: bool, free: bool, inside: bool) -> Checking
-    ensures { refusal_of result ≡ placed_at p
-        (check.refuse fit 8 (check.refuse known 7 (check.refuse free 10 (check.refuse inside 9 none)))) }
-{
-    if !fit {
-        return Checking::Size(p);
-    }
-    if !known {
-        return Checking::Unbound(p);
-    }
-    if !free {
-        return Checking::HeldOut(p);
-    }
-    if !inside {
-        return Checking::Column(p);
-    }
-    Checking::Pass
-}
-
-// What an instruction draws, whose opcode stands at p.
-pub fn check_instr(words: &[u32], p: usize, i: Instr, bound: Bound) -> Checking
+// What an instruction draws, whose opcode stands at p: the first of 8, 7, 10 and 9 whose test fails.
+#[tactic(auto, unfolding(model::specs::Check::check_instr))]
+pub fn check_instr(words: &[u32], p: usize, i: Instr, bound: Bound) -> Result<(), Refusal>
     requires { Readable words.now × Stands words.now i }
     ensures { refusal_of result ≡ placed_at p
         (check.check_instr (tables words.now) functions.arity (has bound)
         (instr_of words.now i)) }
 {
-    let fit = sizes_fit(words, i);
-    let known = reads_known(words, i, bound);
-    let free = held_free(words, i);
-    let inside = columns_fit(words, i);
-    drawn(p, fit, known, free, inside)
+    if !sizes_fit(words, i) {
+        return Err(Refusal::Size(p));
+    }
+    if !reads_known(words, i, bound) {
+        return Err(Refusal::Unbound(p));
+    }
+    if !held_free(words, i) {
+        return Err(Refusal::HeldOut(p));
+    }
+    if !columns_fit(words, i) {
+        return Err(Refusal::Column(p));
+    }
+    Ok(())
 }
 
 // What is bound past an instruction.

@@ -21,20 +21,27 @@ pub struct Progress {
     pub lengths: [u32; 64],
 }
 
+// A book that can be read: its words, an index of its rows, or an empty one for none, and what the words contain.
+#[derive(Clone, Copy)]
+struct Book<'a> {
+    words: &'a [u32],
+    chains: &'a [u32],
+    contents: Contents,
+    ghost readable: { Readable words.now },
+    ghost contained: { ContentsOf words.now contents },
+}
+
 // A step has answered, and the words up to `end` are used.
 fn advance(mut p: Progress, state: ExecutionState, end: usize) -> Progress
     requires { (p.done < 64) × (p.at ≤ end) × (end < 4294967296) }
     ensures { result ≡ advanced state end p }
 {
-    let k = p.done;
-    let at = p.at;
-    p.lengths[k] = (end - at) as u32;
-    let lengths = p.lengths;
+    p.lengths[p.done] = (end - p.at) as u32;
     Progress {
         state,
-        done: k + 1,
+        done: p.done + 1,
         at: end,
-        lengths,
+        ..p
     }
 }
 
@@ -42,157 +49,131 @@ fn advance(mut p: Progress, state: ExecutionState, end: usize) -> Progress
 fn halt(p: Progress, state: ExecutionState) -> Progress
     ensures { result ≡ halted state p }
 {
-    let lengths = p.lengths;
-    Progress {
-        state,
-        done: p.done,
-        at: p.at,
-        lengths,
-    }
+    Progress { state, ..p }
 }
 
-// The next step, a batch, and its body.
-fn batch_step(
-    words: &[u32],
-    chains: &[u32],
-    contents: Contents,
-    p: Progress,
-    bindings: &mut [u32],
-    log: &mut [u32],
-    index: &mut [u32],
-    answer: &mut [u32],
-) -> Progress
-    requires { Readable words.now × BookIndex words.now (table_count words.now) chains.now × ContentsOf words.now contents
-        × (p.done < step_count words.now) × (kind_of words.now (next_entry words.now p) ≡ 4) × Early p
-        × Ready p.state log.old index.old × (length bindings.old ≡ 8192) }
-    ensures is { as_ran result bindings.new log.new index.new answer.new
-        ≡ batch_step words.now (next_entry words.now p)
-        (as_ran p bindings.old log.old index.old answer.old) }
-    ensures fits { (result.state.used ≤ length log.old) × (result.done ≤ p.done + 1) × (result.at ≤ p.at + 8483) }
-{
-    let i = contents.first_step() + p.done;
-    let before = p.state;
-    let batch = step::run_batch(words, chains, contents, i, before, bindings, log, index);
-    let state = batch.state;
-    if state.going() {
-        let end = step_bodies::write_batch(bindings, batch.bindings, batch.mask, p.at, answer);
-        return advance(p, state, end);
-    }
-    halt(p, state)
-}
-
-// The next step, a prediction, and its body.
-fn prediction_step(
-    words: &[u32],
-    chains: &[u32],
-    contents: Contents,
-    p: Progress,
-    bindings: &[u32],
-    log: &mut [u32],
-    index: &mut [u32],
-    answer: &mut [u32],
-) -> Progress
-    requires { Readable words.now × BookIndex words.now (table_count words.now) chains.now × ContentsOf words.now contents
-        × (p.done < step_count words.now) × (kind_of words.now (next_entry words.now p) ≡ 5) × Early p
-        × Ready p.state log.old index.old }
-    ensures is { as_ran result bindings.now log.new index.new answer.new
-        ≡ prediction_step words.now (next_entry words.now p)
-        (as_ran p bindings.now log.old index.old answer.old) }
-    ensures fits { (result.state.used ≤ length log.old) × (result.done ≤ p.done + 1) × (result.at ≤ p.at + 8483) }
-{
-    let i = contents.first_step() + p.done;
-    let before = p.state;
-    let got = step::run_prediction(words, chains, i, before, bindings, log, index);
-    let after = got.state;
-    if after.going() {
-        let row = step::row_answered(words, log, chains, index, i);
-        let end = step_bodies::write_prediction(row, got.made, p.at, answer);
-        return advance(p, after, end);
-    }
-    halt(p, after)
-}
-
-// The next step, if the run goes on.
-fn run_next(
-    words: &[u32],
-    chains: &[u32],
-    contents: Contents,
-    p: Progress,
-    bindings: &mut [u32],
-    log: &mut [u32],
-    index: &mut [u32],
-    answer: &mut [u32],
-) -> Progress
-    requires { Readable words.now × BookIndex words.now (table_count words.now) chains.now × ContentsOf words.now contents
-        × (p.done < step_count words.now) × Early p × Ready p.state log.old index.old × (length bindings.old ≡ 8192) }
-    ensures is { as_ran result bindings.new log.new index.new answer.new
-        ≡ ran_next words.now
-        (as_ran p bindings.old log.old index.old answer.old) }
-    ensures fits { (result.state.used ≤ length log.old) × (result.done ≤ p.done + 1) × (result.at ≤ p.at + 8483) }
-{
-    let state = p.state;
-    if state.going() {
-        if contents::kind_of(words, contents.first_step() + p.done) == 4 {
-            return batch_step(words, chains, contents, p, bindings, log, index, answer);
+impl<'a> Book<'a> {
+    // The next step, a batch, and its body.
+    #[tactic(auto, unfolding(crate::specs::Progress::batch_step))]
+    fn batch_step(
+        self,
+        p: Progress,
+        bindings: &mut [u32],
+        log: &mut [u32],
+        index: &mut [u32],
+        answer: &mut [u32],
+    ) -> Progress
+        requires { BookIndex self.words.now (table_count self.words.now) self.chains.now
+            × (p.done < step_count self.words.now) × (kind_of self.words.now (next_entry self.words.now p) ≡ 4) × Early p
+            × Ready p.state log.old index.old × (length bindings.old ≡ 8192) }
+        ensures is { as_ran result bindings.new log.new index.new answer.new
+            ≡ batch_step self.entry.words.now (next_entry self.entry.words.now p)
+            (as_ran p bindings.old log.old index.old answer.old) }
+        ensures fits { (result.state.used ≤ length log.old) × (result.done ≤ p.done + 1) × (result.at ≤ p.at + 8483) }
+    {
+        let i = self.contents.first_step() + p.done;
+        let before = p.state;
+        let batch = step::run_batch(
+            self.words,
+            self.chains,
+            self.contents,
+            i,
+            before,
+            bindings,
+            log,
+            index,
+        );
+        let state = batch.state;
+        if state.going() {
+            let end = step_bodies::write_batch(bindings, batch.bindings, batch.mask, p.at, answer);
+            return advance(p, state, end);
         }
-        return prediction_step(words, chains, contents, p, bindings, log, index, answer);
+        halt(p, state)
     }
-    p
-}
 
-// All steps, from a fresh execution state with these counters. An index of the book's rows is lent, or an empty one for none.
-fn run_by(
-    words: &[u32],
-    chains: &[u32],
-    contents: Contents,
-    start: Progress,
-    bindings: &mut [u32],
-    log: &mut [u32],
-    index: &mut [u32],
-    answer: &mut [u32],
-) -> Progress
-    requires { Readable words.now × BookIndex words.now (table_count words.now) chains.now × ContentsOf words.now contents
-        × (start.done ≡ 0) × (start.at ≡ 0) × Ready start.state log.old index.old × (length bindings.old ≡ 8192) }
-    ensures is { as_ran result bindings.new log.new index.new answer.new
-        ≡ ran_steps words.now (step_count words.now)
-        (as_ran start bindings.old log.old index.old answer.old) }
-    ensures fits { (result.state.used ≤ length log.old) × (result.done ≤ 64) × (result.at ≤ 1048576) }
-{
-    let steps = contents.step_count();
-    let mut p = start;
-    let mut k = 0;
-    while k < steps {
-        p = run_next(words, chains, contents, p, bindings, log, index, answer);
-        k += 1;
+    // The next step, a prediction, and its body.
+    #[tactic(auto, unfolding(crate::specs::Progress::prediction_step))]
+    fn prediction_step(
+        self,
+        p: Progress,
+        bindings: &[u32],
+        log: &mut [u32],
+        index: &mut [u32],
+        answer: &mut [u32],
+    ) -> Progress
+        requires { BookIndex self.words.now (table_count self.words.now) self.chains.now
+            × (p.done < step_count self.words.now) × (kind_of self.words.now (next_entry self.words.now p) ≡ 5) × Early p
+            × Ready p.state log.old index.old }
+        ensures is { as_ran result bindings.now log.new index.new answer.new
+            ≡ prediction_step self.entry.words.now (next_entry self.entry.words.now p)
+            (as_ran p bindings.now log.old index.old answer.old) }
+        ensures fits { (result.state.used ≤ length log.old) × (result.done ≤ p.done + 1) × (result.at ≤ p.at + 8483) }
+    {
+        let i = self.contents.first_step() + p.done;
+        let before = p.state;
+        let got = step::run_prediction(self.words, self.chains, i, before, bindings, log, index);
+        let after = got.state;
+        if after.going() {
+            let row = step::row_answered(self.words, log, self.chains, index, i);
+            let end = step_bodies::write_prediction(row, got.made, p.at, answer);
+            return advance(p, after, end);
+        }
+        halt(p, after)
     }
-    p
+
+    // The next step, if the run goes on.
+    #[tactic(auto, unfolding(crate::specs::Progress::ran_next))]
+    fn run_next(
+        self,
+        p: Progress,
+        bindings: &mut [u32],
+        log: &mut [u32],
+        index: &mut [u32],
+        answer: &mut [u32],
+    ) -> Progress
+        requires { BookIndex self.words.now (table_count self.words.now) self.chains.now
+            × (p.done < step_count self.words.now) × Early p × Ready p.state log.old index.old × (length bindings.old ≡ 8192) }
+        ensures is { as_ran result bindings.new log.new index.new answer.new
+            ≡ ran_next self.entry.words.now
+            (as_ran p bindings.old log.old index.old answer.old) }
+        ensures fits { (result.state.used ≤ length log.old) × (result.done ≤ p.done + 1) × (result.at ≤ p.at + 8483) }
+    {
+        let state = p.state;
+        if state.going() {
+            if contents::kind_of(self.words, self.contents.first_step() + p.done) == 4 {
+                return self.batch_step(p, bindings, log, index, answer);
+            }
+            return self.prediction_step(p, bindings, log, index, answer);
+        }
+        p
+    }
+
+    // All steps, from a fresh execution state with these counters.
+    #[tactic(auto, unfolding(crate::specs::Progress::ran_steps))]
+    fn run_steps(
+        self,
+        start: Progress,
+        bindings: &mut [u32],
+        log: &mut [u32],
+        index: &mut [u32],
+        answer: &mut [u32],
+    ) -> Progress
+        requires { BookIndex self.words.now (table_count self.words.now) self.chains.now
+            × (start.done ≡ 0) × (start.at ≡ 0) × Ready start.state log.old index.old × (length bindings.old ≡ 8192) }
+        ensures is { as_ran result bindings.new log.new index.new answer.new
+            ≡ ran_steps self.entry.words.now (step_count self.entry.words.now)
+            (as_ran start bindings.old log.old index.old answer.old) }
+        ensures fits { (result.state.used ≤ length log.old) × (result.done ≤ 64) × (result.at ≤ 1048576) }
+    {
+        let mut p = start;
+        for _ in 0..self.contents.step_count() {
+            p = self.run_next(p, bindings, log, index, answer);
+        }
+        p
+    }
 }
 
-// The same, by an index that is made for it.
-fn run_indexed(
-    words: &[u32],
-    contents: Contents,
-    start: Progress,
-    bindings: &mut [u32],
-    log: &mut [u32],
-    index: &mut [u32],
-    answer: &mut [u32],
-) -> Progress
-    requires { Readable words.now × ContentsOf words.now contents × (rows_before words.now (table_count words.now) ≤ 16384)
-        × (start.done ≡ 0) × (start.at ≡ 0) × Ready start.state log.old index.old × (length bindings.old ≡ 8192) }
-    ensures is { as_ran result bindings.new log.new index.new answer.new
-        ≡ ran_steps words.now (step_count words.now)
-        (as_ran start bindings.old log.old index.old answer.old) }
-    ensures fits { (result.state.used ≤ length log.old) × (result.done ≤ 64) × (result.at ≤ 1048576) }
-{
-    let mut chains = [0u32; 18432];
-    hash_index::build_all(words, contents.table_count(), &mut chains);
-    run_by(
-        words, &chains, contents, start, bindings, log, index, answer,
-    )
-}
-
-// The same, by an index or by none.
+// All steps of a book, from a fresh execution state with these counters, by an index that is made for it or by none.
 pub fn run_steps(
     words: &[u32],
     contents: Contents,
@@ -209,17 +190,21 @@ pub fn run_steps(
         (as_ran start bindings.old log.old index.old answer.old) }
     ensures fits { (result.state.used ≤ length log.old) × (result.done ≤ 64) × (result.at ≤ 1048576) }
 {
-    if hash_index::serves(hash_index::rows_before(words, contents.table_count())) {
-        return run_indexed(words, contents, start, bindings, log, index, answer);
+    let tables = contents.table_count();
+    if hash_index::serves(hash_index::rows_before(words, tables)) {
+        let mut chains = [0u32; 18432];
+        hash_index::build_all(words, tables, &mut chains);
+        let book = Book {
+            words,
+            chains: &chains,
+            contents,
+        };
+        return book.run_steps(start, bindings, log, index, answer);
     }
-    run_by(
+    let book = Book {
         words,
-        &words[..0],
+        chains: &words[..0],
         contents,
-        start,
-        bindings,
-        log,
-        index,
-        answer,
-    )
+    };
+    book.run_steps(start, bindings, log, index, answer)
 }

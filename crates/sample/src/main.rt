@@ -1,159 +1,120 @@
 // Runs the sample of the differential runs, read on standard input, and prints how many of its books came out as the sample says. harness/README.md has the format.
 #![tactic(auto)]
 
-ghost use Rattle.std.specs.Prelude.{◌+◌, ◌≤◌, length};
+ghost use Rattle.std.specs.Prelude.{◌≤◌, length};
 
-use conclude::Outcome;
+use refusal::Refusal;
 use std::io;
 use std::io::Read;
 
-// How many words of memory the sample's word i lends. There is room for 20480, and no book of the sample asks for more.
-fn lent(sample: &[u8], i: usize) -> usize
+// How many words of memory an entry's word i lends. There is room for 20480, and no book of the sample asks for more.
+fn lent(entry: &[u8], i: usize) -> usize
     ensures { result ≤ 20480 }
 {
-    let n = words::size_in(sample, i);
-    if n <= 20480 { n } else { 20480 }
+    words::size_in(entry, i).min(20480)
 }
 
-// n bytes from `at` on, or none where there are fewer.
-fn part(sample: &[u8], at: usize, n: usize) -> &[u8] {
-    if at <= sample.len() {
-        if n <= sample.len() - at {
-            return &sample[at..at + n];
-        }
-    }
-    &sample[..0]
+// The bytes of an entry's book, or none where it is cut off.
+fn book(entry: &[u8]) -> &[u8] {
+    let end = 32 + words::size_in(entry, 5);
+    entry.get(32..end).unwrap_or(&[])
 }
 
-// How many words the book's bytes take up, for the book at word p.
-fn book_words(sample: &[u8], p: usize) -> usize
-    requires { p ≤ 524288 }
+// How many words the book's bytes take up.
+fn book_words(entry: &[u8]) -> usize
     ensures { result ≤ 1073741824 }
 {
-    (words::size_in(sample, p + 5) + 3) / 4
+    words::size_in(entry, 5).div_ceil(4)
 }
 
-// How many words the book at word p takes up: eight of head, its bytes, and the answer's words where it is accepted.
-fn size_at(sample: &[u8], p: usize) -> usize
-    requires { p ≤ 524288 }
+// How many words an entry takes up: eight of head, the book's bytes, and the answer's words where the book is accepted.
+fn size(entry: &[u8]) -> usize
     ensures { result ≤ 8589934592 }
 {
-    let book = 8 + book_words(sample, p);
-    if words::size_in(sample, p + 6) == 0 {
-        book + words::size_in(sample, p + 7)
+    let head_and_book = 8 + book_words(entry);
+    if words::size_in(entry, 6) == 0 {
+        head_and_book + words::size_in(entry, 7)
     } else {
-        book
+        head_and_book
     }
 }
 
-// Whether an answer of n words is the one that the sample has from `at` on, and what is lent past it is zero.
-fn same_answer(sample: &[u8], at: usize, answer: &[u32], n: usize) -> bool
-    requires { (at ≤ 4294967296) × (length answer.now ≤ 20480) }
-{
-    if n <= answer.len() {
-        words::same_words(sample, at, &answer[..n]) & words::all_zero(&answer[n..])
-    } else {
-        false
-    }
+// Whether an answer of n words is the one that stands in the entry, and what is lent past it is zero.
+fn same_answer(entry: &[u8], answer: &[u32], n: usize) -> bool {
+    let at = 8 + book_words(entry);
+    answer.split_at_checked(n).is_some_and(|(front, rest)| {
+        words::same_words(entry, at, front) && words::all_zero(rest)
+    })
 }
 
-// Whether the outcome of the book at word p, and the answer lent, are as the sample has them.
-fn agrees(sample: &[u8], p: usize, outcome: Outcome, answer: &[u32]) -> bool
-    requires { (p ≤ 524288) × (length answer.now ≤ 20480) }
-{
-    let number = words::size_in(sample, p + 6);
-    let place = words::size_in(sample, p + 7);
+// Whether the outcome of the entry's book, and the answer lent, are as the entry has them.
+fn agrees(entry: &[u8], outcome: Result<usize, Refusal>, answer: &[u32]) -> bool {
+    let number = words::size_in(entry, 6);
+    let place = words::size_in(entry, 7);
     match outcome {
-        Outcome::Accepted(n) => {
-            let at = p + 8 + book_words(sample, p);
-            (number == 0) & (place == n) & same_answer(sample, at, answer, n)
-        }
-        Outcome::Refused(k, q) => {
-            (number != 0) & (number == words::size(k)) & (place == q) & words::all_zero(answer)
+        Ok(n) => number == 0 && place == n && same_answer(entry, answer, n),
+        Err(refusal) => {
+            number == words::size(refusal.number())
+                && place == refusal.place()
+                && words::all_zero(answer)
         }
     }
 }
 
-// Runs the book at word p with the words lent. The engine's contract says that it leaves all of them zero but the answer's; the compiled engine is seen to.
-fn run_at(
-    sample: &[u8],
-    p: usize,
+// Runs the entry's book with the words lent. The engine's contract says that it leaves all of them zero but the answer's; the compiled engine is seen to.
+fn run_book(
+    entry: &[u8],
     bindings: &mut [u32],
     index: &mut [u32],
     log: &mut [u32],
     tables: &mut [u32],
     answer: &mut [u32],
-) -> bool
-    requires { (p ≤ 524288) × (length answer.old ≤ 20480) }
-{
-    let book = part(sample, 4 * (p + 8), words::size_in(sample, p + 5));
-    let outcome = engine::run(book, bindings, index, log, tables, answer);
-    let right = agrees(sample, p, outcome, answer);
-    let zero = words::all_zero(bindings)
-        & words::all_zero(index)
-        & words::all_zero(log)
-        & words::all_zero(tables);
-    zero & right
+) -> bool {
+    let outcome = engine::run(book(entry), bindings, index, log, tables, answer);
+    words::all_zero(bindings)
+        && words::all_zero(index)
+        && words::all_zero(log)
+        && words::all_zero(tables)
+        && agrees(entry, outcome, answer)
 }
 
-// Runs the book at word p with as many words as the sample lends it. None of them is zero before.
-fn replay(sample: &[u8], p: usize) -> bool
-    requires { p ≤ 524288 }
-{
+// Runs the entry's book with as many words as the entry lends it. None of them is zero before.
+fn replay(entry: &[u8]) -> bool {
     let mut bindings = [1u32; 20480];
     let mut index = [1u32; 20480];
     let mut log = [1u32; 20480];
     let mut tables = [1u32; 20480];
     let mut answer = [1u32; 20480];
-    let a = lent(sample, p);
-    let b = lent(sample, p + 1);
-    let c = lent(sample, p + 2);
-    let d = lent(sample, p + 3);
-    let e = lent(sample, p + 4);
-    run_at(
-        sample,
-        p,
-        &mut bindings[..a],
-        &mut index[..b],
-        &mut log[..c],
-        &mut tables[..d],
-        &mut answer[..e],
+    run_book(
+        entry,
+        &mut bindings[..lent(entry, 0)],
+        &mut index[..lent(entry, 1)],
+        &mut log[..lent(entry, 2)],
+        &mut tables[..lent(entry, 3)],
+        &mut answer[..lent(entry, 4)],
     )
 }
 
 // How many of n books come out as the sample says. A book that the sample's end cuts off is none of them.
-fn count(sample: &[u8], n: usize) -> u64
-    requires { length sample.now ≤ 524288 }
-{
-    let end = sample.len() / 4;
-    let mut right: u64 = 0;
-    let mut p = 1;
-    let mut k = 0;
-    while k < n && p < end {
-        let next = p + size_at(sample, p);
-        if (next <= end) & replay(sample, p) {
+fn count(sample: &[u8], n: usize) -> usize {
+    let mut right = 0;
+    let mut rest = sample.get(4..).unwrap_or(&[]);
+    for _i in 0..n {
+        let Some((entry, others)) = rest.split_at_checked(4 * size(rest)) else {
+            break;
+        };
+        if replay(entry) {
             right += 1;
         }
-        p = next;
-        k += 1;
+        rest = others;
     }
     right
 }
 
-fn print(rt: &impl Print, sample: &[u8]) -> io::Result<()>
-    requires { length sample.now ≤ 524288 }
-{
+fn print(rt: &impl Print, sample: &[u8]) -> io::Result<()> {
     let n = words::size_in(sample, 0);
     let right = count(sample, n);
     println!(rt; "{right} of {n} books as in the sample")
-}
-
-// One read, into the buffer from `at` on: how many bytes it put there, none where it failed.
-fn read_some<R: Read>(input: &mut R, buffer: &mut [u8], at: usize) -> usize
-    requires { at ≤ length buffer.old }
-    ensures { at + result ≤ length buffer.old }
-{
-    input.read(&mut buffer[at..]).unwrap_or(0)
 }
 
 // Reads until the buffer is full, the input ends or a read fails, and answers how many bytes were put there.
@@ -162,7 +123,7 @@ fn read_full<R: Read>(input: &mut R, buffer: &mut [u8]) -> usize
 {
     let mut at = 0;
     while at < buffer.len() {
-        let n = read_some(input, buffer, at);
+        let n = input.read(&mut buffer[at..]).unwrap_or(0);
         if n == 0 {
             break;
         }

@@ -3,7 +3,7 @@
 
 mod input;
 
-ghost use Rattle.std.specs.Prelude.{◌≡◌, ◌++◌, ℕ, ◌<◌, ◌≤◌, length, get_or, take, drop, OnOk, IfSome};
+ghost use Rattle.std.specs.Prelude.{◌≡◌, ◌++◌, ℕ, ◌<◌, ◌≤◌, length, get_or, drop, OnOk, IfSome};
 ghost use Rattle.std.specs.Io.KnownBytes.{Appends};
 ghost use Rattle.model.specs.Printed.{printed};
 ghost use Rattle.model.specs.Claims.Cases.{dispatch_lends};
@@ -11,32 +11,18 @@ ghost use Rattle.engine.specs.Engine.{outcome_of};
 ghost use Rattle.report.specs.Text.{text, up_to, appended};
 ghost use Rattle.report.specs.Prints.{outcome_lines};
 
-use conclude::Outcome;
-use input::Input;
+use refusal::Refusal;
 use std::io::{Error, Read, Write};
 
-// The first n bytes, or all where there are fewer.
-fn front(bytes: &[u8], n: usize) -> &[u8]
-    ensures { result.now ≡ take n bytes.now }
-{
-    if n < bytes.len() { &bytes[..n] } else { bytes }
-}
-
-fn front_words(words: &[u32], n: usize) -> &[u32]
-    ensures { result.now ≡ take n words.now }
-{
-    if n < words.len() { &words[..n] } else { words }
-}
-
 // The lines of what the engine returned and left in the answer, at the front of `out`. The second clause hands on what the answer's type says of its words.
-fn lines(outcome: Outcome, answer: &[u32], out: &mut [u8]) -> usize
+fn lines(outcome: Result<usize, Refusal>, answer: &[u32], out: &mut [u8]) -> usize
     ensures text { up_to out.new result ≡ appended (text (outcome_lines (outcome_of outcome answer.now)))
         (up_to out.old 0) }
     ensures words { (i : ℕ) → get_or answer.now i 0 < 4294967296 }
 {
     match outcome {
-        Outcome::Accepted(n) => report::accepted(front_words(answer, n), out, 0),
-        Outcome::Refused(number, place) => report::refused(number, place, out, 0),
+        Ok(n) => report::accepted(answer.get(..n).unwrap_or(answer), out, 0),
+        Err(refusal) => report::refused(refusal.number(), refusal.place(), out, 0),
     }
 }
 
@@ -69,8 +55,7 @@ fn response<'a>(book: &[u8], out: &'a mut [u8]) -> &'a [u8]
     ensures { result.now ≡ text (printed dispatch_lends book.now) }
 {
     let n = respond(book, out);
-    let bytes = &out[..];
-    front(bytes, n)
+    &out[..n]
 }
 
 // Why a book was not answered: it could not be read, or its lines could not be written.
@@ -80,22 +65,15 @@ pub enum Failure {
     Output(Error),
 }
 
-fn print<W: Write>(output: &mut W, bytes: &[u8]) -> Result<(), Failure>
-    ensures { OnOk result (Appends (W.contents output.old) (W.contents output.new) bytes.now) }
-{
-    match output.write_all(bytes) {
-        Ok(()) => Ok(()),
-        Err(error) => Err(Failure::Output(error)),
-    }
-}
-
 // Prints what comes of a book.
 fn answer_book<W: Write>(output: &mut W, book: &[u8]) -> Result<(), Failure>
     ensures { OnOk result (Appends (W.contents output.old) (W.contents output.new)
         (text (printed dispatch_lends book.now))) }
 {
     let mut out = [0u8; 180224];
-    print(output, response(book, &mut out))
+    output
+        .write_all(response(book, &mut out))
+        .map_err(Failure::Output)
 }
 
 // Reads a book up to the end of its input and prints what comes of it, or nothing where the input cannot be read. Of an input whose bytes are known and an output that says what it holds, what is printed is the text of what the model prints for these bytes.
@@ -104,10 +82,8 @@ pub fn serve<R: Read, W: Write>(input: &mut R, output: &mut W) -> Result<(), Fai
         Appends (W.contents output.old) (W.contents output.new) (text (printed dispatch_lends book)))) }
 {
     let mut buffer = [0u8; 65537];
-    match input::read_all(input, &mut buffer) {
-        Input::Bytes(n) => answer_book(output, &buffer[..n]),
-        Input::Failed(error) => Err(Failure::Input(error)),
-    }
+    let n = input::read_all(input, &mut buffer).map_err(Failure::Input)?;
+    answer_book(output, &buffer[..n])
 }
 
 // Says on standard error what failed, the input under the name given, and why. Where that cannot be written there is nobody left to tell.

@@ -1,10 +1,9 @@
 -- What the code leaves of each instruction, and of a rule's instructions, is what the machine leaves.
 use Prim.Native.Nat.{ℕ, zero, suc, ◌<◌, ◌≤◌}
-use Rattle.std.specs.Prelude.{◌≡◌, Bool, true, false, ◌&&◌}
+use Rattle.std.specs.Prelude.{◌≡◌, Bool, true, false, ◌&&◌, Some, slice_get, None}
 use Rattle.std.proofs.Math.Path.{refl, ap, subst}
 use Rattle.std.proofs.Common.{sym, ◌∙◌, arith}
 use Rattle.std.proofs.Math.Dec.{leb}
-use Rattle.std.proofs.Math.Option.{some}
 use mathlib.Core.List.{List}
 use Rattle.model.specs.Machine.State.{State, Answer, going, is_going}
 use Rattle.model.specs.Machine.Steps.{body, clear, any_live, finish, instruction, instructions}
@@ -21,14 +20,12 @@ use Rattle.instr.specs.declared.Instr.TheVariants.{LookupOrInsertDefault, Lookup
 use Rattle.instr.specs.Meaning.{instr_of}
 use Rattle.lanes.specs.LaneLaws.{asked_entry}
 use Rattle.lanes.specs.Lanes.{entry_ask, asked, is_some}
-use Rattle.execution.specs.declared.Stop.TheVariants.{Going}
 use Rattle.execution.specs.declared.ExecutionState.{ExecutionState}
 use Rattle.action.specs.Act.{Lanes, acted, row_ask}
 use Rattle.simulation.specs.Represents.{machine, LogIs, Follows, sticks, stops, goes, not_going}
 use Rattle.simulation.specs.Passes.{Start, start_clear}
 use Rattle.simulation.specs.Reading.{lookup_default, lookup_fallback, external_fallback}
 use Rattle.simulation.specs.Fits.{Fits}
-use Rattle.std.proofs.Math.ListN.{get_elem?}
 use Rattle.model.specs.Basics.{when, found}
 use Rattle.model.specs.Book.Syntax.{dst_of}
 use Rattle.model.specs.Laws.Turns.{when_T, when_F}
@@ -47,7 +44,7 @@ use Rattle.simulation.specs.Batches as batches
 
 -- ## The instructions
 
-module _ (w : List ℕ) (L : ℕ) (s : State) (start : Start s) (x : ExecutionState) (log index : List ℕ) (on : x.stop ≡ Going) (is : LogIs w L s.log s.counters s.changed x log index) where
+module _ (w : List ℕ) (L : ℕ) (s : State) (start : Start s) (x : ExecutionState) (log index : List ℕ) (on : x.stop ≡ None) (is : LogIs w L s.log s.counters s.changed x log index) where
   abbrev m : List ℕ
   m = columns_of s.bindings
 
@@ -94,7 +91,7 @@ module _ (w : List ℕ) (L : ℕ) (s : State) (start : Start s) (x : ExecutionSt
 module _ (w : List ℕ) (L : ℕ) (short : L ≤ 16384) (answers : List Answer) where
   -- ## One instruction
 
-  module _ (k j : ℕ) (s : State) (r : Running) (a : s.status ≡ going) (o : r.batch.state.stop ≡ Going) (b : BatchIs w L answers s r) (i : Instr) (f : Fits w i) where
+  module _ (k j : ℕ) (s : State) (r : Running) (a : s.status ≡ going) (o : r.batch.state.stop ≡ None) (b : BatchIs w L answers s r) (i : Instr) (f : Fits w i) where
     abbrev s₁ : State
     s₁ = clear s
 
@@ -109,7 +106,7 @@ module _ (w : List ℕ) (L : ℕ) (short : L ≤ 16384) (answers : List Answer) 
   -- ## The instructions of a rule
 
   -- instruction j of the rule, which stands at p
-  next_follows : (k j p : ℕ) (s : State) (r : Running) → s.status ≡ going → r.batch.state.stop ≡ Going → BatchIs w L answers s r → Fits w (instr_at w p)
+  next_follows : (k j p : ℕ) (s : State) (r : Running) → s.status ≡ going → r.batch.state.stop ≡ None → BatchIs w L answers s r → Fits w (instr_at w p)
       → let s' : State = instruction (machine w L) k j (decode.instr_at w p) s in Follows s s' (ran_next w p r).batch.state.stop (BatchIs w L answers s' (ran_next w p r))
   unfolding instruction ran_next
   next_follows k j p s r a o b f = by (any_live s.live) refl
@@ -134,7 +131,7 @@ module _ (w : List ℕ) (L : ℕ) (short : L ≤ 16384) (answers : List Answer) 
           (subst (λ (r' : Running). Follows s s r'.batch.state.stop (BatchIs w L answers s r')) (sym c) (goes a o b))
 
   -- n of them, of the rule whose body begins at the word `at`
-  module _ (k at : ℕ) (n : ℕ) (fit : (j : ℕ) → j < n → Fits w (instr_at w (decode.instr_place w at j))) (rule : syntax.Rule) (its : (j : ℕ) → j < n → get_elem? rule.instrs j ≡ some (decode.instr_at w (decode.instr_place w at j))) (s₀ : State) (r₀ : Running) (a : s₀.status ≡ going) (o : r₀.batch.state.stop ≡ Going) (b : BatchIs w L answers s₀ r₀) where
+  module _ (k at : ℕ) (n : ℕ) (fit : (j : ℕ) → j < n → Fits w (instr_at w (decode.instr_place w at j))) (rule : syntax.Rule) (its : (j : ℕ) → j < n → slice_get rule.instrs j ≡ Some (decode.instr_at w (decode.instr_place w at j))) (s₀ : State) (r₀ : Running) (a : s₀.status ≡ going) (o : r₀.batch.state.stop ≡ None) (b : BatchIs w L answers s₀ r₀) where
     pub instrs_follow : (m : ℕ) → m ≤ n → let s : State = instructions (machine w L) k rule m s₀ in let r : Running = ran_instrs w at m r₀ in Follows s₀ s r.batch.state.stop (BatchIs w L answers s r)
     unfolding instructions ran_instrs
     instrs_follow zero h = goes a o b
@@ -155,7 +152,7 @@ module _ (w : List ℕ) (L : ℕ) (short : L ≤ 16384) (answers : List Answer) 
         Goal : State → Running → Type 0
         Goal s' r' = Follows s₀ s' r'.batch.state.stop (BatchIs w L answers s' r')
 
-        taken : found (get_elem? rule.instrs m) (λ ins. instruction (machine w L) k m ins s) (λ _. s) ≡ next
+        taken : found (slice_get rule.instrs m) (λ ins. instruction (machine w L) k m ins s) (λ _. s) ≡ next
         taken = rw (its m (omega arith))
 
         chain : BatchIs w L answers s r → Follows s next (ran_next w p r).batch.state.stop (BatchIs w L answers next (ran_next w p r)) → Goal next (ran_next w p r)
@@ -163,7 +160,7 @@ module _ (w : List ℕ) (L : ℕ) (short : L ≤ 16384) (answers : List Answer) 
         chain q (stops x y z) = stops x y (z ∙ q.answered ∙ sym b.answered)
         chain q (goes x y z) = goes x y z
 
-        by : Follows s₀ s r.batch.state.stop (BatchIs w L answers s r) → Goal (found (get_elem? rule.instrs m) (λ ins. instruction (machine w L) k m ins s) (λ _. s)) (ran_next w p r)
+        by : Follows s₀ s r.batch.state.stop (BatchIs w L answers s r) → Goal (found (slice_get rule.instrs m) (λ ins. instruction (machine w L) k m ins s) (λ _. s)) (ran_next w p r)
         by (sticks x) = subst (λ (s' : State). Goal s' (ran_next w p r)) (sym taken) (sticks (ap (λ (t : State). t.status) (still w L short answers k m (decode.instr_at w p) s (ap is_going x)) ∙ x))
         by (stops x y z) = subst (λ (s' : State). Goal s' (ran_next w p r)) (sym taken) (subst (λ (r' : Running). Goal next r') (sym (halted w L short answers p r x)) (let e = still w L short answers k m (decode.instr_at w p) s (not_going r.batch.state.stop s.status x y) in stops x (ap (λ (t : State). t.status) e ∙ y) (ap (λ (t : State). t.answers) e ∙ z)))
         by (goes x y q) = subst (λ (s' : State). Goal s' (ran_next w p r)) (sym taken) (chain q (next_follows k m p s r x y q (fit m (omega arith))))

@@ -1,12 +1,11 @@
 -- A batch, a step and a whole run: the code follows the machine.
-use Rattle.std.specs.Prelude.{ℕ, zero, suc, ◌+◌, ◌*◌, ◌<◌, ◌≤◌, ◌≡◌, refl, Bool, get_or, cond}
+use Rattle.std.specs.Prelude.{ℕ, zero, suc, ◌+◌, ◌*◌, ◌<◌, ◌≤◌, ◌≡◌, refl, Bool, get_or, cond, None, slice_get}
 use Rattle.std.proofs.Math.Path.{sym, ap, subst}
 use Rattle.std.proofs.Common.{◌∙◌, arith, eq-eqb}
 use Rattle.std.proofs.Math.Bool.{true}
-use Rattle.std.proofs.Math.Option.{none}
 use mathlib.Core.List.{List, ◌∷◌}
 use Rattle.std.proofs.Math.Dec.{eqb}
-use Rattle.std.proofs.Math.ListN.{length, get_elem?}
+use Rattle.std.proofs.Math.ListN.{length}
 use Rattle.model.specs.Basics.{when, found, tab}
 use Rattle.model.specs.Book.Syntax.{Rule, Step}
 use Rattle.model.specs.Book.Contents.{first_of, end_of, kind_of, first_step, step_count}
@@ -17,7 +16,6 @@ use Rattle.model.specs.Machine.Steps.{begin, end, instructions, step, fresh, run
 use Rattle.model.specs.Laws.Turns.{when_T, when_F}
 use Rattle.model.specs.Laws.Book.{Readable, rule_is}
 use Rattle.model.specs.Laws.Scan.{BatchWords}
-use Rattle.execution.specs.declared.Stop.TheVariants.{Going}
 use Rattle.execution.specs.declared.ExecutionState.{ExecutionState}
 use Rattle.action.specs.Run.{Running}
 use Rattle.step.specs.Steps.{start_batch, rule_of, ran_batch}
@@ -54,7 +52,7 @@ module _ (w : List ℕ) (h : Readable w) (L : ℕ) (short : L ≤ 16384) where
     abbrev rule : Rule
     rule = read_rule w (rule_of w at)
 
-    module _ (k : ℕ) (s : State) (x : ExecutionState) (log index : List ℕ) (a : s.status ≡ going) (o : x.stop ≡ Going) (is : LogIs w L s.log s.counters s.changed x log index) where
+    module _ (k : ℕ) (s : State) (x : ExecutionState) (log index : List ℕ) (a : s.status ≡ going) (o : x.stop ≡ None) (is : LogIs w L s.log s.counters s.changed x log index) where
       abbrev s₀ : State
       s₀ = begin k rule n columns s
 
@@ -79,8 +77,8 @@ module _ (w : List ℕ) (h : Readable w) (L : ℕ) (short : L ≤ 16384) where
 
 -- ## The steps
 
-module _ (w : List ℕ) (h : Readable w) (L : ℕ) (short : L ≤ 16384) (no_steps : steps_refusal w ≡ none) where
-  module _ (k : ℕ) (l : k < step_count w) (s : State) (a : Ran) (going-s : s.status ≡ going) (going-a : a.progress.state.stop ≡ Going) (r : RunIs w L k s a) where
+module _ (w : List ℕ) (h : Readable w) (L : ℕ) (short : L ≤ 16384) (no_steps : steps_refusal w ≡ None) where
+  module _ (k : ℕ) (l : k < step_count w) (s : State) (a : Ran) (going-s : s.status ≡ going) (going-a : a.progress.state.stop ≡ None) (r : RunIs w L k s a) where
     abbrev i : ℕ
     i = first_step w + k
 
@@ -138,7 +136,7 @@ module _ (w : List ℕ) (h : Readable w) (L : ℕ) (short : L ≤ 16384) (no_ste
   abbrev ran : ℕ → State
   ran n = run (machine w L) (counters w) (steps w) n
 
-  module _ (a₀ : Ran) (start : RunIs w L 0 (fresh (counters w)) a₀) (on : a₀.progress.state.stop ≡ Going) where
+  module _ (a₀ : Ran) (start : RunIs w L 0 (fresh (counters w)) a₀) (on : a₀.progress.state.stop ≡ None) where
     pub run_follows : (n : ℕ) → n ≤ step_count w → Runs w L n (ran n) (ran_steps w n a₀)
     unfolding run ran_steps ran_next
     run_follows zero l = going_on refl on start
@@ -151,7 +149,7 @@ module _ (w : List ℕ) (h : Readable w) (L : ℕ) (short : L ≤ 16384) (no_ste
         a = ran_steps w n a₀
 
         act : State → State
-        act s' = found (get_elem? (steps w) n) (λ st. step (machine w L) n st s') (λ _. s')
+        act s' = found (slice_get (steps w) n) (λ st. step (machine w L) n st s') (λ _. s')
 
         acts : act s ≡ step (machine w L) n (read.step w n) s
         acts = rw (its_step w h L short no_steps n (omega arith))

@@ -1,10 +1,9 @@
 -- A batch that goes on, in the code and in the machine, and the end of an instruction; `proofs/Instructions` goes from its start to its end.
 use Prim.Native.Nat.{ℕ, suc, ◌≤◌}
-use Rattle.std.specs.Prelude.{◌≡◌, Bool, true, false, ◌&&◌, ◌||◌, List, [], ◌∷◌, map, eqb, length, take, replicate}
+use Rattle.std.specs.Prelude.{◌≡◌, Bool, true, false, ◌&&◌, ◌||◌, List, [], ◌∷◌, map, eqb, length, take, replicate, Option, None, Some}
 use Rattle.std.proofs.Math.Path.{refl, subst}
 use Rattle.std.proofs.Common.{sym, ap, ◌∙◌, arith}
 use Rattle.std.proofs.Math.Bool.{or-false}
-use Rattle.std.proofs.Math.Option.{Option, none, some}
 use Rattle.model.specs.Basics.{found, only}
 use Rattle.model.specs.Book.Syntax.{dst_of, stale}
 use Rattle.model.specs.Book.Syntax as syntax
@@ -24,7 +23,6 @@ use Rattle.instr.specs.Instr.{instr_at}
 use Rattle.instr.specs.Meaning.{instr_of}
 use Rattle.instr.specs.Stands.{binds_of, IsVariable}
 use Rattle.instr.specs.StandsLaws.{binds}
-use Rattle.execution.specs.declared.Stop.TheVariants.{Going}
 use Rattle.execution.specs.Execution.{goes_on, is_going as code_goes}
 use Rattle.action.specs.Act.{Lanes, acted}
 use Rattle.action.specs.Run.{Running, begun, finished, ran_instr, ran_next}
@@ -45,7 +43,7 @@ pub record BatchIs (w : List ℕ) (L : ℕ) (answers : List Answer) (s : State) 
   pub bindings : r.bindings ≡ columns_of s.bindings
   pub known : length r.batch.bindings.bound.known ≡ 32
   pub bound_is : (v : ℕ) → has r.batch.bindings.bound v ≡ is_bound (s.bindings v)
-  pub columns : (v : ℕ) (c : List ℕ) → s.bindings v ≡ some c → length c ≡ length s.live
+  pub columns : (v : ℕ) (c : List ℕ) → s.bindings v ≡ Some c → length c ≡ length s.live
   pub answered : s.answers ≡ answers
 
 fits_variable : (w : List ℕ) (i : Instr) → Fits w i → IsVariable (binds_of i)
@@ -72,7 +70,7 @@ module _ (w : List ℕ) (L : ℕ) (short : L ≤ 16384) (answers : List Answer) 
 
   module _ (s : State) (r : Running) (b : BatchIs w L answers s r) (s₂ : State) (l : Lanes) (h : LanesAre w L (clear s) s₂ l) where
     finish_is : (dst : Option ℕ) → IsVariable dst → (k : ℕ) → BatchIs w L answers (note (mask k s₂.live) (bind_out dst s₂)) (finished dst l r)
-    finish_is none v k = record {
+    finish_is None v k = record {
       is = h.is;
       lanes = b.lanes ∙ sym h.lanes_size;
       few = omega (arith, h.lanes_size, b.few);
@@ -83,14 +81,14 @@ module _ (w : List ℕ) (L : ℕ) (short : L ≤ 16384) (answers : List Answer) 
       columns = λ u c e. b.columns u c (ap (λ f. f u) (sym h.bindings) ∙ e) ∙ sym h.lanes_size;
       answered = h.answers ∙ b.answered;
     }
-    finish_is (some d) v k = record {
+    finish_is (Some d) v k = record {
       is = h.is;
       lanes = b.lanes ∙ sym h.lanes_size;
       few = omega (arith, h.lanes_size, b.few);
       live = h.live;
       bindings = ap (λ (m : List ℕ). bound d (take r.batch.bindings.matches l.out) m) b.bindings ∙ ap (λ (c : List ℕ). bound d c (columns_of s.bindings)) column ∙ bind_is s.bindings d (map or_stale s₂.out) v ∙ ap (λ f. columns_of (bind d (map or_stale s₂.out) f)) (sym h.bindings);
-      known = length_binding (some d) r.batch.bindings.bound b.known;
-      bound_is = λ u. has_binding (some d) r.batch.bindings.bound v b.known u ∙ ap (λ (q : Bool). q || eqb u d) (b.bound_is u) ∙ by u (eqb u d) ∙ ap (λ f. is_bound (bind d (map or_stale s₂.out) f u)) (sym h.bindings);
+      known = length_binding (Some d) r.batch.bindings.bound b.known;
+      bound_is = λ u. has_binding (Some d) r.batch.bindings.bound v b.known u ∙ ap (λ (q : Bool). q || eqb u d) (b.bound_is u) ∙ by u (eqb u d) ∙ ap (λ f. is_bound (bind d (map or_stale s₂.out) f u)) (sym h.bindings);
       columns = λ u c e. sized u c (eqb u d) refl e;
       answered = h.answers ∙ b.answered;
     }
@@ -98,7 +96,7 @@ module _ (w : List ℕ) (L : ℕ) (short : L ≤ 16384) (answers : List Answer) 
         column : take r.batch.bindings.matches l.out ≡ map or_stale s₂.out
         column = ap (λ (n : ℕ). take n l.out) b.lanes ∙ sym h.out
 
-        by : (u : ℕ) (q : Bool) → is_bound (s.bindings u) || q ≡ is_bound (found (only q (some (map or_stale s₂.out))) some (λ _. s.bindings u))
+        by : (u : ℕ) (q : Bool) → is_bound (s.bindings u) || q ≡ is_bound (found (only q (Some (map or_stale s₂.out))) Some (λ _. s.bindings u))
         by u true = or_true' (is_bound (s.bindings u))
           where
             or_true' : (a : Bool) → a || true ≡ true
@@ -106,16 +104,16 @@ module _ (w : List ℕ) (L : ℕ) (short : L ≤ 16384) (answers : List Answer) 
             or_true' false = refl
         by u false = or-false (is_bound (s.bindings u)) ∙ same (s.bindings u)
           where
-            same : (o : Option (List ℕ)) → is_bound o ≡ is_bound (found (only false (some (map or_stale s₂.out))) some (λ _. o))
+            same : (o : Option (List ℕ)) → is_bound o ≡ is_bound (found (only false (Some (map or_stale s₂.out))) Some (λ _. o))
             same o = refl
 
-        sized : (u : ℕ) (c : List ℕ) (q : Bool) → eqb u d ≡ q → found (only (eqb u d) (some (map or_stale s₂.out))) some (λ _. s₂.bindings u) ≡ some c → length c ≡ length s₂.live
+        sized : (u : ℕ) (c : List ℕ) (q : Bool) → eqb u d ≡ q → found (only (eqb u d) (Some (map or_stale s₂.out))) Some (λ _. s₂.bindings u) ≡ Some c → length c ≡ length s₂.live
         sized u c true e z = ap length (sym (some_inj (rw e at z))) ∙ length_map s₂.out ∙ h.marks ∙ sym h.lanes_size
         sized u c false e z = b.columns u c (ap (λ f. f u) (sym h.bindings) ∙ rw e at z) ∙ sym h.lanes_size
 
   -- ## One instruction
 
-  module _ (k j : ℕ) (s : State) (r : Running) (a : s.status ≡ going) (o : r.batch.state.stop ≡ Going) (b : BatchIs w L answers s r) (i : Instr) (f : Fits w i) where
+  module _ (k j : ℕ) (s : State) (r : Running) (a : s.status ≡ going) (o : r.batch.state.stop ≡ None) (b : BatchIs w L answers s r) (i : Instr) (f : Fits w i) where
     abbrev s₁ : State
     s₁ = clear s
 
@@ -139,8 +137,8 @@ module _ (w : List ℕ) (L : ℕ) (short : L ≤ 16384) (answers : List Answer) 
         (goes (status (binds_of i)) y (finish_is s r b s₂ left h (binds_of i) (fits_variable w i f) k)))
       where
         status : (d : Option ℕ) → (bind_out d s₂).status ≡ going
-        status none = x
-        status (some v) = x
+        status None = x
+        status (Some v) = x
 
   -- ## The instructions of a rule
 

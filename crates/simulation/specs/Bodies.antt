@@ -1,12 +1,11 @@
 -- The lanes' part of each instruction: what the code leaves is what the machine leaves. Those that answer missed lanes by a default or a fallback, and all of them together, stand in `proofs/Instructions`.
 use Prim.Native.Nat.{ℕ, zero, suc, ◌<◌, ◌≤◌}
-use Rattle.std.specs.Prelude.{◌≡◌, Bool, true, false, ◌&&◌, ◌||◌, length, get_or, take, replicate}
+use Rattle.std.specs.Prelude.{◌≡◌, Bool, true, false, ◌&&◌, ◌||◌, length, get_or, take, replicate, Option, None, Some}
 use Rattle.std.proofs.Math.Path.{refl, ap, subst}
 use Rattle.std.proofs.Common.{sym, ◌∙◌, arith, ext_get_or, get_or-take, length-take-le}
 use Rattle.std.proofs.Math.Dec.{leb}
 use borrow.Author.Tests.{lt-ltb}
 use Rattle.ids.specs.declared.CounterId.{CounterId}
-use Rattle.std.proofs.Math.Option.{Option, none, some}
 use mathlib.Core.List.{List, [], ◌∷◌, map}
 use Rattle.std.proofs.Math.Decide.{dec_lt}
 use Rattle.std.proofs.Math.ListN.{length-replicate, get_or-eq_default}
@@ -32,7 +31,6 @@ use Rattle.instr.specs.Meaning.{entries_of, writes_of, instr_of}
 use Rattle.lanes.specs.declared.Ask.TheVariants.{Const as AskConst}
 use Rattle.lanes.specs.Lanes.{asked, is_some, or_else, answered_lanes, answered_words}
 use Rattle.execution.specs.declared.Change.TheVariants as change
-use Rattle.execution.specs.declared.Stop.TheVariants.{Going}
 use Rattle.execution.specs.declared.ExecutionState.{ExecutionState}
 use Rattle.execution.specs.Execution.{Logged}
 use Rattle.predict.specs.Predict.{Served, served_lanes}
@@ -65,7 +63,7 @@ out_column n out words l o =
     length_mapped [] = refl
     length_mapped (x ∷ out) = ap suc (length_mapped out)
 
-    mapped : (out : List (Option ℕ)) (i : ℕ) → i < length out → get_or (map or_stale out) i 0 ≡ or_stale (get_or out i none)
+    mapped : (out : List (Option ℕ)) (i : ℕ) → i < length out → get_or (map or_stale out) i 0 ≡ or_stale (get_or out i None)
     mapped [] i h = absurd (omega arith)
     mapped (x ∷ out) zero h = refl
     mapped (x ∷ out) (suc i) h = mapped out i (omega arith)
@@ -78,21 +76,21 @@ marks_at zero j x h = absurd (omega arith)
 marks_at (suc n) zero x h = refl
 marks_at (suc n) (suc j) x h = marks_at n j x (omega arith)
 
-blank : (n j : ℕ) → ◌≡◌ {A = Option ℕ} (get_or (replicate n none) j none) none
+blank : (n j : ℕ) → ◌≡◌ {A = Option ℕ} (get_or (replicate n None) j None) None
 blank zero j = refl
 blank (suc n) zero = refl
 blank (suc n) (suc j) = blank n j
 
-pub filled_mark : (n j x : ℕ) → j < n → ◌≡◌ {A = Option ℕ} (get_or (replicate n (some x)) j none) (some x)
+pub filled_mark : (n j x : ℕ) → j < n → ◌≡◌ {A = Option ℕ} (get_or (replicate n (Some x)) j None) (Some x)
 filled_mark zero j x h = absurd (omega arith)
 filled_mark (suc n) zero x h = refl
 filled_mark (suc n) (suc j) x h = filled_mark n j x (omega arith)
 
 -- nothing was found yet
-no_out : (n : ℕ) → n ≤ 256 → OutIs n (replicate n none) no_words
-no_out n l = record { marks = length-replicate n none; size = length-replicate 256 stale; word = λ j h. marks_at 256 j stale (omega arith) ∙ sym (ap or_stale (blank n j)) }
+no_out : (n : ℕ) → n ≤ 256 → OutIs n (replicate n None) no_words
+no_out n l = record { marks = length-replicate n None; size = length-replicate 256 stale; word = λ j h. marks_at 256 j stale (omega arith) ∙ sym (ap or_stale (blank n j)) }
 
-module _ (w : List ℕ) (L : ℕ) (s : State) (start : Start s) (x : ExecutionState) (log index : List ℕ) (on : x.stop ≡ Going) (is : LogIs w L s.log s.counters s.changed x log index) where
+module _ (w : List ℕ) (L : ℕ) (s : State) (start : Start s) (x : ExecutionState) (log index : List ℕ) (on : x.stop ≡ None) (is : LogIs w L s.log s.counters s.changed x log index) where
   abbrev m : List ℕ
   m = columns_of s.bindings
 
@@ -126,9 +124,9 @@ module _ (w : List ℕ) (L : ℕ) (s : State) (start : Start s) (x : ExecutionSt
       bindings = kept.bindings;
       answers = kept.answers;
       lanes_size = ap length kept.live;
-      marks = ap length (kept.out ∙ start.out) ∙ length-replicate n none;
+      marks = ap length (kept.out ∙ start.out) ∙ length-replicate n None;
       live = ap padded (sym kept.live);
-      out = ap (map or_stale) (kept.out ∙ start.out) ∙ out_column n (replicate n none) no_words start.few (no_out n start.few);
+      out = ap (map or_stale) (kept.out ∙ start.out) ∙ out_column n (replicate n None) no_words start.few (no_out n start.few);
       is = q;
     }
 
@@ -150,8 +148,8 @@ module _ (w : List ℕ) (L : ℕ) (s : State) (start : Start s) (x : ExecutionSt
       where
         lane : (p : Bool) (x y : Option ℕ) → is_some y ≡ true → is_some (only p x) || is_some (only (but_not p (is_some (only p x))) y) ≡ p
         lane false x y e = refl
-        lane true (some x) y e = refl
-        lane true none y e = e
+        lane true (Some x) y e = refl
+        lane true None y e = e
 
     pub ins_3 : (table : TableId) (args : Entries) (col : ColumnId) (dst : Variable) → Fits w (Lookup table args col dst) → Lanewise (Lookup table args col dst)
     unfolding acted
@@ -198,10 +196,10 @@ module _ (w : List ℕ) (L : ℕ) (s : State) (start : Start s) (x : ExecutionSt
       bindings = refl;
       answers = refl;
       lanes_size = refl;
-      marks = length-replicate n (some next);
+      marks = length-replicate n (Some next);
       live = refl;
-      out = out_column n (replicate n (some next)) words start.few (record {
-        marks = length-replicate n (some next);
+      out = out_column n (replicate n (Some next)) words start.few (record {
+        marks = length-replicate n (Some next);
         size = length_words (asked w m (AskConst given)) (first_lanes 256) no_words;
         word = λ i h. answered_word (asked w m (AskConst given)) (first_lanes 256) no_words i (omega arith) ∙ rw (has_first 256 i (omega arith), lt-ltb i 256 (omega arith)) (read i h);
       });
@@ -220,7 +218,7 @@ module _ (w : List ℕ) (L : ℕ) (s : State) (start : Start s) (x : ExecutionSt
         given_is : given ≡ next
         given_is = ap (λ (l : List ℕ). get_or l c.0 0) is.next ∙ get_or_padded s.counters c.0 (omega (arith, is.counted, f.0))
 
-        read : (i : ℕ) → i < n → or_else (only true (asked w m (AskConst given) i)) (get_or no_words i 0) ≡ or_stale (get_or (replicate n (some next)) i none)
+        read : (i : ℕ) → i < n → or_else (only true (asked w m (AskConst given) i)) (get_or no_words i 0) ≡ or_stale (get_or (replicate n (Some next)) i None)
         read i h = given_is ∙ ap or_stale (sym (filled_mark n i next h))
 
     -- ## The missed lanes are served
@@ -257,10 +255,10 @@ module _ (w : List ℕ) (L : ℕ) (s : State) (start : Start s) (x : ExecutionSt
             few₁ : length s₁.live ≤ 256
             few₁ = rw q.passed.live_is start.few
 
-            waits : (i : ℕ) → get_or who i false ≡ get_or s₁.live i false && is_none (get_or s₁.out i none)
+            waits : (i : ℕ) → get_or who i false ≡ get_or s₁.live i false && is_none (get_or s₁.out i None)
             waits i = elim (dec_lt i 256) [ yes h ↦ waits_missed s start ask s₁ q i h | no h ↦ get_or-eq_default who false {n = i} (omega (arith, length_both but_not (padded s.live) (answered_lanes ask (padded s.live)))) ∙ sym (rw (get_or-eq_default s₁.live false {n = i} (omega (arith, few₁)))) ]
 
-            misses : (i : ℕ) → i < 256 → get_or who i false ≡ true → asked w (columns_of s₁.bindings) (row_ask w table args col) i ≡ none
+            misses : (i : ℕ) → i < 256 → get_or who i false ≡ true → asked w (columns_of s₁.bindings) (row_ask w table args col) i ≡ None
             misses i h e = ap (λ (b : Bindings). asked w (columns_of b) (row_ask w table args col) i) q.passed.bindings ∙ missed_none s start ask i h e
 
             found : OutIs (length s₁.live) s₁.out (answered_words ask (padded s.live) no_words)

@@ -1,7 +1,6 @@
 -- The end of a run: its start, that it is never stuck, and what the commit and the answer come to.
-use Rattle.std.specs.Prelude.{ℕ, ◌-◌, ◌^◌, ◌<◌, ◌≤◌, ◌≡◌, refl, ◌≢◌, false, cond, List, ◌++◌, ltb, leb, length, take, replicate}
+use Rattle.std.specs.Prelude.{ℕ, ◌-◌, ◌^◌, ◌<◌, ◌≤◌, ◌≡◌, refl, ◌≢◌, false, cond, List, ◌++◌, ltb, leb, length, take, replicate, None, Ok, Err}
 use Rattle.std.proofs.Common.{sym, ap, ◌∙◌, subst, arith}
-use Rattle.std.proofs.Math.Option.{none}
 use Rattle.std.proofs.lemmas.List.{length-replicate}
 use Rattle.model.specs.Basics.{All, tab}
 use Rattle.model.specs.Book.Syntax.{Table}
@@ -29,9 +28,8 @@ use Rattle.predicted_index.specs.RightLaws.{none_ok}
 use Rattle.commit.specs.Commit.{Left, committed_rows}
 use Rattle.record_log.specs.RecordLaws.{records_of}
 use Rattle.commit.specs.CommitLaws.{over_is}
-use Rattle.execution.specs.declared.Stop.TheVariants.{Going}
 use Rattle.execution.specs.declared.ExecutionState.{ExecutionState}
-use Rattle.answer.specs.declared.Assembled.TheVariants.{Words, Over}
+use Rattle.refusal.specs.declared.Refusal.TheVariants.{AnswerFull}
 use Rattle.answer.specs.Layout.{Results, results_of, left_by, assembled, assembled_length, Enough}
 use Rattle.answer.specs.AnswerLaws.{Tabled, Told, committed_tabled, enough, assembled_length_lem, assembled_is}
 use Rattle.answer.specs.Scratch.{scratch_none}
@@ -44,7 +42,7 @@ use Rattle.simulation.specs.Runs.{words_of, RunIs}
 
 -- a fresh execution state with the book's counters
 abbrev pub start_state : List ℕ → ExecutionState
-start_state w = record { used = 0; counters = record { next = padded (counters w) }; changed = false; stop = Going }
+start_state w = record { used = 0; counters = record { next = padded (counters w) }; changed = false; stop = None }
 
 abbrev pub start_progress : List ℕ → Progress
 start_progress w = record { state = start_state w; done = 0; at = 0; lengths = replicate 64 0 }
@@ -64,7 +62,7 @@ starts w L A m = record {
 
 -- ## Never stuck
 
-pub never_stuck : (book : List ℕ) → All Byte book → book_refusal book ≡ none → (L n : ℕ) → (run (machine (model.words_of book) L) (counters (model.words_of book)) (steps (model.words_of book)) n).status ≢ stuck
+pub never_stuck : (book : List ℕ) → All Byte book → book_refusal book ≡ None → (L n : ℕ) → (run (machine (model.words_of book) L) (counters (model.words_of book)) (steps (model.words_of book)) n).status ≢ stuck
 never_stuck book bytes unrefused L n = (demand3 book bytes unrefused (λ o call. apply) (λ o call f args w clean e. functions_fine f args w clean e) (λ n. leb n L) (steps (model.words_of book)) (own_steps_lem book bytes unrefused) n).never_stuck
 
 -- ## The commit and the answer
@@ -103,7 +101,7 @@ module _ (w : List ℕ) (h : Readable w) (L : ℕ) (short : L ≤ 16384) (s : St
     pub is_enough : length done.words ≤ 16384 → length (take used a.log) ≤ 16384 → a.progress.at < 2 ^ 31 → Enough results a.progress.at a.answer
     is_enough p q z = enough made ts s tabled told a.answer a.progress.at r.at r.scratch p q z
 
-    pub answer_length : assembled_length results (length a.answer) ≡ cond (leb (length (answer ts s)) (length a.answer)) (Words (length (answer ts s))) Over
+    pub answer_length : assembled_length results (length a.answer) ≡ cond (leb (length (answer ts s)) (length a.answer)) (Ok (length (answer ts s))) (Err AnswerFull)
     answer_length = assembled_length_lem made ts s tabled told a.answer a.progress.at r.at r.scratch
 
     pub answer_words : assembled results a.answer ≡ cond (leb (length (answer ts s)) (length a.answer)) (answer ts s ++ replicate (length a.answer - length (answer ts s)) 0) a.answer

@@ -1,10 +1,9 @@
 -- A pass of the plain machine that only reads, against the code's masks and arrays of 256 lanes.
 use Prim.Native.Nat.{ℕ, zero, suc, ◌<◌, ◌≤◌}
-use Rattle.std.specs.Prelude.{◌≡◌, refl, ◌⊎◌, ◌≢◌, true, ◌&&◌, List, map, length, take, replicate}
+use Rattle.std.specs.Prelude.{◌≡◌, refl, ◌⊎◌, ◌≢◌, true, ◌&&◌, List, map, length, take, replicate, Option, None, Some}
 use Rattle.std.proofs.Common.{sym, ap, ◌∙◌, arith, ext_get_or, get_or-take, length-take-le}
 use Rattle.std.proofs.Math.Logic.{inl, inr}
 use Rattle.std.proofs.Math.Bool.{Bool, false, ◌||◌}
-use Rattle.std.proofs.Math.Option.{Option, none, some}
 use Rattle.std.proofs.Math.ListN.{get_or, get_or-map}
 use Rattle.std.proofs.lemmas.List.{length-replicate, length-map, get_or-replicate}
 use Rattle.model.specs.Basics.{only, tab}
@@ -23,20 +22,20 @@ use Rattle.simulation.specs.Turns.{effect, verdict, Answers, Judges, wait_does, 
 
 -- stale where nothing was found, and past the lanes
 unfoldable pub out_words : List (Option ℕ) → List ℕ
-out_words out = tab (λ i. or_stale (get_or out i none)) 256
+out_words out = tab (λ i. or_stale (get_or out i None)) 256
 
 abbrev pub no_words : List ℕ
 no_words = replicate 256 stale
 
-pub out_word : (out : List (Option ℕ)) (i d : ℕ) → i < 256 → get_or (out_words out) i d ≡ or_stale (get_or out i none)
+pub out_word : (out : List (Option ℕ)) (i d : ℕ) → i < 256 → get_or (out_words out) i d ≡ or_stale (get_or out i None)
 unfolding out_words
-out_word out i d h = get_or_tab (λ i. or_stale (get_or out i none)) 256 i d h
+out_word out i d h = get_or_tab (λ i. or_stale (get_or out i None)) 256 i d h
 
 pub length_out : (out : List (Option ℕ)) → length (out_words out) ≡ 256
 unfolding out_words
-length_out out = length_tab (λ i. or_stale (get_or out i none)) 256
+length_out out = length_tab (λ i. or_stale (get_or out i None)) 256
 
-is_out : (out : List (Option ℕ)) (words : List ℕ) → length words ≡ 256 → ((i : ℕ) → i < 256 → get_or words i 0 ≡ or_stale (get_or out i none)) → out_words out ≡ words
+is_out : (out : List (Option ℕ)) (words : List ℕ) → length words ≡ 256 → ((i : ℕ) → i < 256 → get_or words i 0 ≡ or_stale (get_or out i None)) → out_words out ≡ words
 is_out out words n h = ext_get_or 0 (out_words out) words (length_out out ∙ sym n) (λ i l. let k : i < 256 = omega (arith, length_out out) in out_word out i 0 k ∙ sym (h i k))
 
 -- the words of the lanes
@@ -44,7 +43,7 @@ pub out_taken : (out : List (Option ℕ)) → length out ≤ 256 → map or_stal
 out_taken out h =
     let n : length (map or_stale out) ≡ length out = length-map out or_stale in
     ext_get_or stale (map or_stale out) (take (length out) (out_words out)) (n ∙ sym (length-take-le (length out) (out_words out) (omega (arith, length_out out))))
-    (λ i l. let k : i < length out = omega arith in get_or-map or_stale out i none ∙ sym (get_or-take (length out) (out_words out) i stale k ∙ out_word out i stale (omega arith)))
+    (λ i l. let k : i < length out = omega arith in get_or-map or_stale out i None ∙ sym (get_or-take (length out) (out_words out) i stale k ∙ out_word out i stale (omega arith)))
 
 -- ## Lane by lane
 
@@ -88,12 +87,12 @@ missed_lanes ask live = without live (answered_lanes ask live)
 pub record Start (s : State) : Type 0 where
   pub status : s.status ≡ going
   pub few : length s.live ≤ 256
-  pub out : s.out ≡ replicate (length s.live) none
+  pub out : s.out ≡ replicate (length s.live) None
 
 pub start_clear : (s : State) → s.status ≡ going → length s.live ≤ 256 → Start (clear s)
 start_clear s e h = record { status = e; few = h; out = refl }
 
-none_yet : (n i : ℕ) → ◌≡◌ {A = Option ℕ} (get_or (replicate n none) i none) none
+none_yet : (n i : ℕ) → ◌≡◌ {A = Option ℕ} (get_or (replicate n None) i None) None
 none_yet zero i = refl
 none_yet (suc n) zero = refl
 none_yet (suc n) (suc i) = none_yet n i
@@ -117,7 +116,7 @@ unstuck s s' live words e n = either (λ x. absurd (n x)) (λ p. p) e
 pub record Waits (s s' : State) (ask : ℕ → Option ℕ) : Type 0 where
   pub passed : Passed s s' s.live s'.out
   pub out_size_lem : length s'.out ≡ length s.live
-  pub out_is : (i : ℕ) → get_or s'.out i none ≡ only (get_or s.live i false) (ask i)
+  pub out_is : (i : ℕ) → get_or s'.out i None ≡ only (get_or s.live i false) (ask i)
 
 -- the column that is bound to dst
 pub dst_is : (s s' : State) (live : List Bool) (words : List ℕ) → length s.live ≤ 256 → Ended s s' live words → map or_stale s'.out ≡ take (length s.live) words
@@ -131,7 +130,7 @@ module _ (todo : Bool → Option ℕ → Bool) (e : ℕ → Effect) (s s' : Stat
   mark i = get_or s.live i false
 
   abbrev dst : ℕ → Option ℕ
-  dst i = get_or s.out i none
+  dst i = get_or s.out i None
 
   ended : (live : List Bool) (words : List ℕ) → length live ≡ 256 → length words ≡ 256
       → ((i : ℕ) → i < 256 → get_or live i false ≡ live_after (todo (mark i) (dst i)) (e i) (mark i))
@@ -146,23 +145,23 @@ module _ (todo : Bool → Option ℕ → Bool) (e : ℕ → Effect) (s s' : Stat
 
 drop_lane : (a : Bool) (o : Option ℕ) → is_some (only a o) ≡ live_after a (effect loses o) a
 drop_lane false o = refl
-drop_lane true none = refl
-drop_lane true (some x) = refl
+drop_lane true None = refl
+drop_lane true (Some x) = refl
 
-drop_word : (a : Bool) (o : Option ℕ) → or_else (only a o) stale ≡ or_stale (out_after a (effect loses o) none)
+drop_word : (a : Bool) (o : Option ℕ) → or_else (only a o) stale ≡ or_stale (out_after a (effect loses o) None)
 drop_word false o = refl
-drop_word true none = refl
-drop_word true (some x) = refl
+drop_word true None = refl
+drop_word true (Some x) = refl
 
 default_lane : (a : Bool) (o : Option ℕ) (d : ℕ) → a ≡ live_after a (effect (gives d) o) a
 default_lane false o d = refl
-default_lane true none d = refl
-default_lane true (some x) d = refl
+default_lane true None d = refl
+default_lane true (Some x) d = refl
 
-default_word : (a : Bool) (o : Option ℕ) (d : ℕ) → or_else (only (but_not a (is_some (only a o))) (some d)) (or_else (only a o) stale) ≡ or_stale (out_after a (effect (gives d) o) none)
+default_word : (a : Bool) (o : Option ℕ) (d : ℕ) → or_else (only (but_not a (is_some (only a o))) (Some d)) (or_else (only a o) stale) ≡ or_stale (out_after a (effect (gives d) o) None)
 default_word false o d = refl
-default_word true none d = refl
-default_word true (some x) d = refl
+default_word true None d = refl
+default_word true (Some x) d = refl
 
 test_lane : (a b : Bool) → a && b ≡ live_after a (verdict b) a
 test_lane false b = refl
@@ -176,34 +175,34 @@ test_out true false o = refl
 
 wait_lane : (a : Bool) (o : Option ℕ) → live_after a (effect keeps o) a ≡ a
 wait_lane false o = refl
-wait_lane true none = refl
-wait_lane true (some x) = refl
+wait_lane true None = refl
+wait_lane true (Some x) = refl
 
-wait_out : (a : Bool) (o : Option ℕ) → out_after a (effect keeps o) none ≡ only a o
+wait_out : (a : Bool) (o : Option ℕ) → out_after a (effect keeps o) None ≡ only a o
 wait_out false o = refl
-wait_out true none = refl
-wait_out true (some x) = refl
+wait_out true None = refl
+wait_out true (Some x) = refl
 
 second_lane : (a : Bool) (o o' : Option ℕ) → is_some (only a o) || is_some (only (but_not a (is_some (only a o))) o') ≡ live_after (a && is_none (only a o)) (effect loses o') a
 second_lane false o o' = refl
-second_lane true none none = refl
-second_lane true none (some x) = refl
-second_lane true (some x) o' = refl
+second_lane true None None = refl
+second_lane true None (Some x) = refl
+second_lane true (Some x) o' = refl
 
 second_word : (a : Bool) (o o' : Option ℕ) → or_else (only (but_not a (is_some (only a o))) o') (or_else (only a o) stale) ≡ or_stale (out_after (a && is_none (only a o)) (effect loses o') (only a o))
 second_word false o o' = refl
-second_word true none none = refl
-second_word true none (some x) = refl
-second_word true (some x) o' = refl
+second_word true None None = refl
+second_word true None (Some x) = refl
+second_word true (Some x) o' = refl
 
 missed_some : (a : Bool) (o : Option ℕ) → but_not a (is_some (only a o)) ≡ a && is_none (only a o)
 missed_some false o = refl
-missed_some true none = refl
-missed_some true (some x) = refl
+missed_some true None = refl
+missed_some true (Some x) = refl
 
 or_else_stale : (o : Option ℕ) → or_else o stale ≡ or_stale o
-or_else_stale none = refl
-or_else_stale (some x) = refl
+or_else_stale None = refl
+or_else_stale (Some x) = refl
 
 no_word : (i : ℕ) → i < 256 → get_or no_words i 0 ≡ stale
 no_word i h = get_or-replicate 256 i stale 0 h
@@ -217,10 +216,10 @@ module _ (s : State) (start : Start s) where
   marks = padded s.live
 
   size : length s.out ≡ length s.live
-  size = ap length start.out ∙ length-replicate (length s.live) none
+  size = ap length start.out ∙ length-replicate (length s.live) None
 
-  nothing : (i : ℕ) → get_or s.out i none ≡ none
-  nothing i = ap (λ (o : List (Option ℕ)). get_or o i none) start.out ∙ none_yet (length s.live) i
+  nothing : (i : ℕ) → get_or s.out i None ≡ None
+  nothing i = ap (λ (o : List (Option ℕ)). get_or o i None) start.out ∙ none_yet (length s.live) i
 
   turns : (f : ℕ → State → State) (e : ℕ → Effect) → ((i : ℕ) (s' : State) → i < 256 → s'.bindings ≡ s.bindings → Does (e i) i s' (f i s')) → ((lanes f s).status ≡ stuck) ⊎ Whole (λ b o. b) e s (lanes f s)
   unfolding lanes
@@ -230,7 +229,7 @@ module _ (s : State) (start : Start s) where
   first_ended : (f : ℕ → State → State) (e : ℕ → Effect) → ((i : ℕ) (s' : State) → i < 256 → s'.bindings ≡ s.bindings → Does (e i) i s' (f i s'))
       → (live : List Bool) (words : List ℕ) → length live ≡ 256 → length words ≡ 256
       → ((i : ℕ) → i < 256 → get_or live i false ≡ live_after (get_or s.live i false) (e i) (get_or s.live i false))
-      → ((i : ℕ) → i < 256 → get_or words i 0 ≡ or_stale (out_after (get_or s.live i false) (e i) none)) → Ends s (lanes f s) live words
+      → ((i : ℕ) → i < 256 → get_or words i 0 ≡ or_stale (out_after (get_or s.live i false) (e i) None)) → Ends s (lanes f s) live words
   first_ended f e does live words n m l o =
       either inl (λ p. inr (ended (λ b o. b) e s (lanes f s) start.few size p live words n m l (λ i h. o i h ∙ ap (λ (x : Option ℕ). or_stale (out_after (get_or s.live i false) (e i) x)) (sym (nothing i))))) (turns f e does)
 
@@ -247,12 +246,12 @@ module _ (s : State) (start : Start s) where
   missed_lane ask i h = has_both but_not marks (answered_lanes ask marks) i h ∙ rw (answered_lane ask marks i h, has_padded s.live i) refl
 
   -- a missed lane was not answered
-  pub missed_none : (ask : ℕ → Option ℕ) (i : ℕ) → i < 256 → get_or (missed_lanes ask marks) i false ≡ true → ask i ≡ none
+  pub missed_none : (ask : ℕ → Option ℕ) (i : ℕ) → i < 256 → get_or (missed_lanes ask marks) i false ≡ true → ask i ≡ None
   missed_none ask i h e = by (get_or s.live i false) (ask i) (sym (missed_lane ask i h) ∙ e)
     where
-      by : (a : Bool) (o : Option ℕ) → but_not a (is_some (only a o)) ≡ true → o ≡ none
-      by true none q = refl
-      by true (some x) q = let z : ◌≡◌ {A = ℕ} 0 1 = cc in absurd (omega arith)
+      by : (a : Bool) (o : Option ℕ) → but_not a (is_some (only a o)) ≡ true → o ≡ None
+      by true None q = refl
+      by true (Some x) q = let z : ◌≡◌ {A = ℕ} 0 1 = cc in absurd (omega arith)
       by false o q = let z : ◌≡◌ {A = ℕ} 0 1 = cc in absurd (omega arith)
 
   first_word : (ask : ℕ → Option ℕ) (i : ℕ) → i < 256 → get_or (answered_words ask marks no_words) i 0 ≡ or_else (only (get_or s.live i false) (ask i)) stale
@@ -261,23 +260,23 @@ module _ (s : State) (start : Start s) where
   -- a miss gives the lane a word of its own
   pub default_pass : (ask : ℕ → Option ℕ) (d : ℕ → ℕ) (f : ℕ → (State → State) → State → State) (g : ℕ → State → State) → Answers s.bindings ask f
       → ((i : ℕ) (s' : State) → i < 256 → s'.bindings ≡ s.bindings → Does (gives (d i)) i s' (g i s'))
-      → Ends s (lanes (λ i. f i (g i)) s) marks (answered_words (λ i. some (d i)) (missed_lanes ask marks) (answered_words ask marks no_words))
+      → Ends s (lanes (λ i. f i (g i)) s) marks (answered_words (λ i. Some (d i)) (missed_lanes ask marks) (answered_words ask marks no_words))
   default_pass ask d f g q r =
       first_ended (λ i. f i (g i)) (λ i. effect (gives (d i)) (ask i)) (λ i s' h same. q i s' (g i) (gives (d i)) h same (λ s'' e. r i s'' h e))
-      marks (answered_words (λ i. some (d i)) (missed_lanes ask marks) (answered_words ask marks no_words)) (length_padded s.live start.few) (length_words (λ i. some (d i)) (missed_lanes ask marks) (answered_words ask marks no_words))
+      marks (answered_words (λ i. Some (d i)) (missed_lanes ask marks) (answered_words ask marks no_words)) (length_padded s.live start.few) (length_words (λ i. Some (d i)) (missed_lanes ask marks) (answered_words ask marks no_words))
       (λ i h. has_padded s.live i ∙ default_lane (get_or s.live i false) (ask i) (d i))
-      (λ i h. answered_word (λ i. some (d i)) (missed_lanes ask marks) (answered_words ask marks no_words) i h ∙ rw (missed_lane ask i h, first_word ask i h) (default_word (get_or s.live i false) (ask i) (d i)))
+      (λ i h. answered_word (λ i. Some (d i)) (missed_lanes ask marks) (answered_words ask marks no_words) i h ∙ rw (missed_lane ask i h, first_word ask i h) (default_word (get_or s.live i false) (ask i) (d i)))
 
   -- a lane that fails drops
   pub test_pass : (test : ℕ → Bool) (f : ℕ → State → State) → Judges s.bindings test f → Ends s (lanes f s) (kept test marks) no_words
   test_pass test f q =
       first_ended f (λ i. verdict (test i)) q (kept test marks) no_words (length_kept test marks) (length-replicate 256 stale)
       (λ i h. kept_lane test marks i h ∙ rw (has_padded s.live i) (test_lane (get_or s.live i false) (test i)))
-      (λ i h. no_word i h ∙ ap or_stale (sym (test_out (get_or s.live i false) (test i) none)))
+      (λ i h. no_word i h ∙ ap or_stale (sym (test_out (get_or s.live i false) (test i) None)))
 
   -- and dst is left as it is
   pub test_same : (test : ℕ → Bool) (f : ℕ → State → State) → Judges s.bindings test f → ((lanes f s).status ≡ stuck) ⊎ ((lanes f s).out ≡ s.out)
-  test_same test f q = either inl (λ p. inr (ext_get_or none (lanes f s).out s.out p.out_size_lem (λ i _. p.out i ∙ test_out (get_or s.live i false) (test i) (get_or s.out i none)))) (turns f (λ i. verdict (test i)) q)
+  test_same test f q = either inl (λ p. inr (ext_get_or None (lanes f s).out s.out p.out_size_lem (λ i _. p.out i ∙ test_out (get_or s.live i false) (test i) (get_or s.out i None)))) (turns f (λ i. verdict (test i)) q)
 
   -- a miss leaves the lane as it is
   pub first_pass : (ask : ℕ → Option ℕ) (f : ℕ → (State → State) → State → State) → Answers s.bindings ask f → ((lanes (λ i. f i wait) s).status ≡ stuck) ⊎ Waits s (lanes (λ i. f i wait) s) ask
@@ -300,14 +299,14 @@ module _ (s : State) (start : Start s) where
 
   module _ (ask : ℕ → Option ℕ) (s₁ : State) (waited : Waits s s₁ ask) where
     -- the code's mask of the lanes that were answered, and its array
-    pub waits_found : (i : ℕ) → i < 256 → get_or (answered_lanes ask marks) i false ≡ is_some (get_or s₁.out i none)
+    pub waits_found : (i : ℕ) → i < 256 → get_or (answered_lanes ask marks) i false ≡ is_some (get_or s₁.out i None)
     waits_found i h = answered_lane ask marks i h ∙ rw (has_padded s.live i, waited.out_is i) refl
 
     pub waits_words : out_words s₁.out ≡ answered_words ask marks no_words
     waits_words = is_out s₁.out (answered_words ask marks no_words) (length_words ask marks no_words) (λ i h. first_word ask i h ∙ or_else_stale (only (get_or s.live i false) (ask i)) ∙ ap or_stale (sym (waited.out_is i)))
 
     -- the lanes that have a turn in the pass over the missed ones
-    pub waits_missed : (i : ℕ) → i < 256 → get_or (missed_lanes ask marks) i false ≡ get_or s₁.live i false && is_none (get_or s₁.out i none)
+    pub waits_missed : (i : ℕ) → i < 256 → get_or (missed_lanes ask marks) i false ≡ get_or s₁.live i false && is_none (get_or s₁.out i None)
     waits_missed i h = missed_lane ask i h ∙ missed_some (get_or s.live i false) (ask i) ∙ rw (waited.passed.live_is, waited.out_is i) refl
 
     -- missed lanes ask again, and a second miss drops the lane
@@ -342,13 +341,13 @@ module _ (s : State) (start : Start s) where
         a : ℕ → Bool
         a i = get_or s.live i false
 
-        now : (i : ℕ) → (get_or s₁.live i false ≡ a i) × (get_or s₁.out i none ≡ only (a i) (ask i))
+        now : (i : ℕ) → (get_or s₁.live i false ≡ a i) × (get_or s₁.out i None ≡ only (a i) (ask i))
         now i = (ap (λ (l : List Bool). get_or l i false) waited.passed.live_is, waited.out_is i)
 
-        lane : (i : ℕ) → i < 256 → get_or live i false ≡ live_after (todo (get_or s₁.live i false) (get_or s₁.out i none)) (e i) (get_or s₁.live i false)
+        lane : (i : ℕ) → i < 256 → get_or live i false ≡ live_after (todo (get_or s₁.live i false) (get_or s₁.out i None)) (e i) (get_or s₁.live i false)
         lane i h = has_both ◌||◌ (answered_lanes ask marks) (answered_lanes ask' (missed_lanes ask marks)) i h ∙ rw (answered_lane ask marks i h, answered_lane ask' (missed_lanes ask marks) i h, missed_lane ask i h, has_padded s.live i, (now i).0, (now i).1) (second_lane (a i) (ask i) (ask' i))
 
-        word : (i : ℕ) → i < 256 → get_or words i 0 ≡ or_stale (out_after (todo (get_or s₁.live i false) (get_or s₁.out i none)) (e i) (get_or s₁.out i none))
+        word : (i : ℕ) → i < 256 → get_or words i 0 ≡ or_stale (out_after (todo (get_or s₁.live i false) (get_or s₁.out i None)) (e i) (get_or s₁.out i None))
         word i h = answered_word ask' (missed_lanes ask marks) (answered_words ask marks no_words) i h ∙ rw (missed_lane ask i h, first_word ask i h, (now i).0, (now i).1) (second_word (a i) (ask i) (ask' i))
 
         on : Ended s₁ s₂ live words → Ended s s₂ live words

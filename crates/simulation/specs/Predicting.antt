@@ -1,9 +1,8 @@
 -- The predicted row of a key: found in the log, or built and logged, in the code as in the machine.
-use Rattle.std.specs.Prelude.{ℕ, ◌+◌, ◌*◌, ◌<◌, ◌≤◌, ◌≡◌, Bool, true, cond, List, [], ◌∷◌, ◌++◌, eqb, leb, set, take}
+use Rattle.std.specs.Prelude.{ℕ, ◌+◌, ◌*◌, ◌<◌, ◌≤◌, ◌≡◌, Bool, true, cond, List, [], ◌∷◌, ◌++◌, eqb, leb, set, take, None, Some, Option}
 use Rattle.std.proofs.Math.Path.{refl, ap}
 use Rattle.std.proofs.Common.{sym, ◌∙◌, subst, arith, leb-true, eqb-true, eq-eqb}
 use Rattle.std.proofs.Math.Bool.{false}
-use Rattle.std.proofs.Math.Option.{none, some}
 use Rattle.std.proofs.Math.ListN.{length}
 use Rattle.model.specs.Basics.{first}
 use Rattle.model.specs.Book.Syntax.{Counter, width}
@@ -19,7 +18,6 @@ use Rattle.model.specs.Laws.Book.{keys_of, width_of, table_keys, table_width}
 use Rattle.args.specs.declared.Args.{Args}
 use Rattle.ids.specs.declared.TableId.{TableId}
 use Rattle.tables.specs.Tables.{info_of, Stands, front}
-use Rattle.record_log.specs.declared.Appended.TheVariants.{Used, Full as NoRoom}
 use Rattle.record_log.specs.Log.{log_of}
 use Rattle.predicted_index.specs.declared.Slot.{Slot}
 use Rattle.predicted_index.specs.declared.Slot.TheVariants.{Hit, Free, Full as NoSlot}
@@ -37,7 +35,7 @@ use Rattle.instr.specs.Meaning.{writes_of}
 use Rattle.build.specs.declared.Building.{Building}
 use Rattle.build.specs.Build as code
 use Rattle.record_log.specs.RecordLaws.{Sized}
-use Rattle.execution.specs.declared.Stop.TheVariants.{Going, Spent, Full}
+use Rattle.execution.specs.declared.Stop.TheVariants.{Spent, Full}
 use Rattle.execution.specs.declared.ExecutionState.{ExecutionState}
 use Rattle.execution.specs.Execution.{goes_on, Logged, staged, after_append}
 use Rattle.predict.specs.declared.Row.{Row}
@@ -61,9 +59,9 @@ pub record HasRow (w : List ℕ) (L t : ℕ) (key : List ℕ) (s : State) (made 
   pub status : s'.status ≡ s.status
   pub is : LogIs w L s'.log s'.counters s'.changed g.got.state g.log g.index
   pub made_is : g.got.made ≡ made
-  pub goes_on_lem : g.got.state.stop ≡ Going
+  pub goes_on_lem : g.got.state.stop ≡ None
   pub size : length r ≡ width_of w t
-  pub row_is : first (predicted_rows (table_of (machine w L) t).keys t key s'.log) ≡ some r
+  pub row_is : first (predicted_rows (table_of (machine w L) t).keys t key s'.log) ≡ Some r
 
 module _ (w : List ℕ) (L : ℕ) (short : L ≤ 16384) (t : TableId) (known : t.0 < table_count w) where
   -- what the code reads of a key is the model's row
@@ -74,10 +72,10 @@ module _ (w : List ℕ) (L : ℕ) (short : L ≤ 16384) (t : TableId) (known : t
       ∙ row_is home_of w t known vals home_below index records is.index_ok L is.fits short (λ n r e kind table. (All-at (Sized w) records n is.sized e).size ∙ rw (kind, table) (table_width w t.0 known))
 
   -- where none is committed it is the row that was got
-  pub got_read : {s s' : State} {made : Bool} {r key : List ℕ} {g : Gotten} → HasRow w L t.0 key s made r s' g → (vals : List ℕ) → front vals (keys_of w t.0) ≡ key → find (table_of (machine w L) t.0).keys (table_of (machine w L) t.0).rows key ≡ none → row_of home_of w g.log g.index (sought_in w t) vals ≡ r
+  pub got_read : {s s' : State} {made : Bool} {r key : List ℕ} {g : Gotten} → HasRow w L t.0 key s made r s' g → (vals : List ℕ) → front vals (keys_of w t.0) ≡ key → find (table_of (machine w L) t.0).keys (table_of (machine w L) t.0).rows key ≡ None → row_of home_of w g.log g.index (sought_in w t) vals ≡ r
   got_read h vals e f = row_among_lem h.is vals ∙ rw (e, f, h.row_is)
 
-module _ (w : List ℕ) (L : ℕ) (short : L ≤ 16384) (s : State) (x : ExecutionState) (log index : List ℕ) (is : LogIs w L s.log s.counters s.changed x log index) (on : x.stop ≡ Going)
+module _ (w : List ℕ) (L : ℕ) (short : L ≤ 16384) (s : State) (x : ExecutionState) (log index : List ℕ) (is : LogIs w L s.log s.counters s.changed x log index) (on : x.stop ≡ None)
     (id : TableId) (table : TableOk w id.0) (vals : Entries) (few : vals.count ≤ 16) (ok : (k : ℕ) → k < vals.count → Writable w (write_at w (vals.at + 2 * k)))
     (o : Site) (b : Bindings) (m : List ℕ) (reads_as : ReadsAs b o.lane m) (key : List ℕ) (a : Args) (key_is : ListIs key (keys_of w id.0) a) where
   abbrev t : ℕ
@@ -113,7 +111,7 @@ module _ (w : List ℕ) (L : ℕ) (short : L ≤ 16384) (s : State) (x : Executi
     unfolding predict_row
     hit p e =
         let r = get_hit home_of home_below (keys_of w) index s.log is.index_ok L is.fits t a.vals p e in
-        let f : first (predicted_rows (table_of E t).keys t key s.log) ≡ some r.row.words = rw (table_keys w t table.known, ← front_is) r.first_row in
+        let f : first (predicted_rows (table_of E t).keys t key s.log) ≡ Some r.row.words = rw (table_keys w t table.known, ← front_is) r.first_row in
         let z : length r.row.words ≡ width_of w t = (All-at (Sized w) s.log r.index is.sized r.is).size ∙ rw (r.kind, r.table) (table_width w t table.known) in
         rw f
         (c.having false r.row.words s (flat.by_slot w m o.lane row a held (Hit p)) (record {
@@ -129,17 +127,17 @@ module _ (w : List ℕ) (L : ℕ) (short : L ≤ 16384) (s : State) (x : Executi
 
     -- a new one, in a free slot
     module _ (slot : ℕ) (e : slot_of home_of index (log_of s.log L) t a.vals (keys_of w t) ≡ Free slot) where
-      abbrev B : Building
-      B = code.built w m o.lane a row.vals.at row.vals.count x.counters
-
-      abbrev given : Logged
-      given = record { state = record { used = x.used; counters = B.counters; changed = x.changed; stop = x.stop }; log = log }
+      abbrev O : Option Building
+      O = code.built w m o.lane a row.vals.at row.vals.count x.counters
 
       none_yet : predicted_rows (table_of E t).keys t key s.log ≡ []
       none_yet = rw (table_keys w t table.known, ← front_is) (get_free home_of home_below (keys_of w) index s.log is.index_ok L is.fits t a.vals slot e)
 
       -- it was built, and is logged if it has room
-      module _ (r : List ℕ) (cs : List Counter) (n : ℕ) (n_is : n ≡ width_of w t) (starts : take (keys_of w t) r ≡ key) (h : RowIs w n r cs B) where
+      module _ (r : List ℕ) (cs : List Counter) (n : ℕ) (n_is : n ≡ width_of w t) (starts : take (keys_of w t) r ≡ key) (B : Building) (B_is : O ≡ Some B) (h : RowIs w n r cs B) where
+        abbrev given : Logged
+        given = record { state = record { used = x.used; counters = B.counters; changed = x.changed; stop = x.stop }; log = log }
+
         abbrev new : Record
         new = record { site = o; kind = 2; table = t; words = r }
 
@@ -153,15 +151,15 @@ module _ (w : List ℕ) (L : ℕ) (short : L ≤ 16384) (s : State) (x : Executi
         is_one : is_row (table_of E t).keys t key new ≡ true
         is_one = rw (eq-eqb t t refl) (eq_eq_list (take (table_of E t).keys r) key (rw (table_keys w t table.known) starts))
 
-        only_one : first (predicted_rows (table_of E t).keys t key all) ≡ some r
+        only_one : first (predicted_rows (table_of E t).keys t key all) ≡ Some r
         only_one = rw (rows_more (table_of E t).keys t key s.log new, none_yet, is_one)
 
         given_is : LogIs w L s.log cs s.changed given.state log index
         given_is = record { fits = is.fits; log_is = is.log_is; used = is.used; index_ok = is.index_ok; next = h.next; counted = h.counted; flag = is.flag; sized = is.sized }
 
         roomy : (q : Bool) → leb (log_words all) L ≡ q
-            → P (if_room q new s₁ (k true r)) (flat.logged slot x.used (record { state = after_append (cond q (Used (log_words all)) NoRoom) given.state; log = cond q (log_of all L) (log_of s.log L) }) index)
-        roomy false q = c.stopping (stop full s₁) (record { got = flat.stopped_by Full (record { used = x.used; counters = B.counters; changed = x.changed; stop = Full }); log = log_of s.log L; index = index }) refl refl refl
+            → P (if_room q new s₁ (k true r)) (flat.logged slot x.used (record { state = after_append (cond q (Some (log_words all)) None) given.state; log = cond q (log_of all L) (log_of s.log L) }) index)
+        roomy false q = c.stopping (stop full s₁) (record { got = flat.stopped_by (Some Full) (record { used = x.used; counters = B.counters; changed = x.changed; stop = (Some Full) }); log = log_of s.log L; index = index }) refl refl refl
         roomy true q = subst (λ (u : Bool). P (k true r (logged new s₁)) (cond u made_it not_made)) (sym (ap goes_on on)) (c.having true r (logged new s₁) made_it (record {
           kept = record { bindings = refl; live = refl; out = refl; answers = refl };
           unchanged = refl;
@@ -188,31 +186,31 @@ module _ (w : List ℕ) (L : ℕ) (short : L ≤ 16384) (s : State) (x : Executi
             not_made : Gotten
             not_made = record { got = flat.stopped_by x.stop (record { used = log_words all; counters = B.counters; changed = x.changed; stop = x.stop }); log = log_of all L; index = index }
 
-        whole_is : P (if_room (leb (log_words all) L) new s₁ (k true r)) (flat.whole t slot B held)
-        whole_is = subst (λ (u : Bool). P (if_room (leb (log_words all) L) new s₁ (k true r)) (cond u (record { got = flat.stopped_by Spent x; log = log; index = index }) (flat.logged slot x.used (staged 2 t B.row.vals B.row.count given) index))) (sym h.unspent)
+        whole_is : P (if_room (leb (log_words all) L) new s₁ (k true r)) (flat.whole t slot O held)
+        whole_is = subst (λ (q : Option Building). P (if_room (leb (log_words all) L) new s₁ (k true r)) (flat.whole t slot q held)) (sym B_is)
             (subst (λ (v : Logged). P (if_room (leb (log_words all) L) new s₁ (k true r)) (flat.logged slot x.used v index)) (sym (stage_is w L s.log cs s.changed given.state log index given_is new B.row.vals B.row.count (record_is new B.row n h.row_is)))
             (roomy (leb (log_words all) L) refl))
 
       abbrev G : Gotten
-      G = flat.whole t slot B held
+      G = flat.whole t slot O held
 
-      came : (R : Built) → build b o.lane (writes_of w row.vals) (built key s.counters) ≡ R → (n : ℕ) → n ≡ width_of w t → BuildIs w n R B → P (stage_new E o t R s (k true)) G
+      came : (R : Built) → build b o.lane (writes_of w row.vals) (built key s.counters) ≡ R → (n : ℕ) → n ≡ width_of w t → BuildIs w n R O → P (stage_new E o t R s (k true)) G
       came is_stuck q n n_is h = c.sticking (stop stuck s) G refl
-      came is_spent q n n_is h = subst (λ (u : Bool). P (stop spent s) (cond u (record { got = flat.stopped_by Spent x; log = log; index = index }) (flat.logged slot x.used (staged 2 t B.row.vals B.row.count given) index))) (sym h) (c.stopping (stop spent s) (record { got = flat.stopped_by Spent x; log = log; index = index }) refl refl refl)
-      came (built r cs) q n n_is h = whole_is r cs n n_is (ap (λ (u : ℕ). take u r) (sym key_is.size) ∙ starts_with b o.lane key (writes_of w row.vals) s.counters cs r q) h
+      came is_spent q n n_is h = subst (λ (v : Option Building). P (stop spent s) (flat.whole t slot v held)) (sym h) (c.stopping (stop spent s) (record { got = flat.stopped_by (Some Spent) x; log = log; index = index }) refl refl refl)
+      came (built r cs) q n n_is (B, e, h) = whole_is r cs n n_is (ap (λ (u : ℕ). take u r) (sym key_is.size) ∙ starts_with b o.lane key (writes_of w row.vals) s.counters cs r q) B e h
 
-      begun : (r : Built) → row_start E t key (writes_of w row.vals) s.counters ≡ some r → P (stage_new E o t (build b o.lane (writes_of w row.vals) r) s (k true)) G
+      begun : (r : Built) → row_start E t key (writes_of w row.vals) s.counters ≡ Some r → P (stage_new E o t (build b o.lane (writes_of w row.vals) r) s (k true)) G
       begun r q =
           let y = only_yes (eqb (length key + length (writes_of w row.vals)) (width (table_of E t))) (built key s.counters) r q in
           let n_is : keys_of w t + row.vals.count ≡ width_of w t = omega (arith, eqb-true (length key + length (writes_of w row.vals)) (width (table_of E t)) y.0, key_is.size, length_tab (λ k. decode.write_at w (row.vals.at + 2 * k)) row.vals.count, table_width w t table.known) in
           subst (λ (r : Built). P (stage_new E o t (build b o.lane (writes_of w row.vals) r) s (k true)) G) y.1
           (came (build b o.lane (writes_of w row.vals) (built key s.counters)) refl (keys_of w t + row.vals.count) n_is
-          (built_is w b o.lane m reads_as row.vals.at row.vals.count (keys_of w t) (omega (arith, table.few)) ok key s.counters a x.counters (record { row_is = key_is; next = is.next; counted = is.counted; unspent = refl })))
+          (built_is w b o.lane m reads_as row.vals.at row.vals.count (keys_of w t) (omega (arith, table.few)) ok key s.counters a x.counters (record { row_is = key_is; next = is.next; counted = is.counted })))
 
       free : P (predict_row E o b t key (writes_of w row.vals) s k) (flat.by_slot w m o.lane row a held (Free slot))
       unfolding predict_row flat.inserted
       free =
-          let f : first (predicted_rows (table_of E t).keys t key s.log) ≡ none = ap first none_yet in
+          let f : first (predicted_rows (table_of E t).keys t key s.log) ≡ None = ap first none_yet in
           rw f (need_ind (λ s'. P s' G) (row_start E t key (writes_of w row.vals) s.counters) s _ (c.sticking (stop stuck s) G refl) begun)
 
     by_slot_lem : (z : Slot) → slot_of home_of index (log_of s.log L) t a.vals (keys_of w t) ≡ z → P (predict_row E o b t key (writes_of w row.vals) s k) (flat.by_slot w m o.lane row a held z)

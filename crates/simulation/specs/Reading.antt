@@ -1,8 +1,7 @@
 -- The instructions that only read, by the passes of their lanes.
 use Prim.Native.Nat.{ℕ, ◌<◌}
-use Rattle.std.specs.Prelude.{◌≡◌, ◌⊎◌, Bool, List}
+use Rattle.std.specs.Prelude.{◌≡◌, ◌⊎◌, Bool, List, Option}
 use Rattle.std.proofs.Math.Path.{sym, subst, fun_ext}
-use Rattle.std.proofs.Math.Option.{Option}
 use Rattle.model.specs.Basics.{All}
 use Rattle.model.specs.Machine.State.{State, stuck, Bindings, Env}
 use Rattle.model.specs.Machine.Steps.{here, lanes, wait, plain, lookup, invoke, take_default, body}

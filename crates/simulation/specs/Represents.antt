@@ -1,9 +1,8 @@
 -- What the code holds of the plain machine's state, and how a part of a run may end in both.
-use Rattle.std.specs.Prelude.{ℕ, zero, suc, ◌+◌, ◌*◌, ◌<◌, ◌≤◌, ◌≡◌, Bool, List, [], ◌∷◌, ◌⊎◌, eqb, leb, length, get_or, replicate}
+use Rattle.std.specs.Prelude.{ℕ, zero, suc, ◌+◌, ◌*◌, ◌<◌, ◌≤◌, ◌≡◌, Bool, List, [], ◌∷◌, ◌⊎◌, eqb, leb, length, get_or, replicate, Option, None, Some}
 use Rattle.std.proofs.Math.Path.{refl, sym}
 use Rattle.std.proofs.Common.{ap, ◌∙◌, subst, inl, inr, arith, get_or-take, ext_get_or, length-take-le}
 use Rattle.std.proofs.Math.Bool.{true, false}
-use Rattle.std.proofs.Math.Option.{Option, none, some}
 use Rattle.std.proofs.Math.Dec.{T}
 use borrow.Author.Tests.{eqb-true}
 use Rattle.model.specs.Basics.{iter, when, tab, All}
@@ -31,7 +30,7 @@ use Rattle.instr.specs.Meaning.{entries_of}
 use Rattle.lanes.specs.Lanes.{listed}
 use Rattle.record_log.specs.RecordLaws.{Sized}
 use Rattle.execution.specs.declared.Stop.{Stop}
-use Rattle.execution.specs.declared.Stop.TheVariants.{Going, Spent, Full}
+use Rattle.execution.specs.declared.Stop.TheVariants.{Spent, Full}
 use Rattle.execution.specs.declared.ExecutionState.{ExecutionState}
 use Rattle.execution.specs.Execution.{goes_on}
 
@@ -50,32 +49,32 @@ pub record LogIs (w : List ℕ) (L : ℕ) (records : List Record) (counters : Li
   pub flag : x.changed ≡ changed
   pub sized : All (Sized w) records
 
-abbrev pub status_of : Stop → Status
-status_of Going = going
-status_of Spent = spent
-status_of Full = full
+abbrev pub status_of : Option Stop → Status
+status_of None = going
+status_of (Some Spent) = spent
+status_of (Some Full) = full
 
 -- the machine is stuck, or both end early for the same reason, or both go on: from s₀ the machine came to s, and the code to `stop`
-pub data Follows (s₀ s : State) (stop : Stop) (R : Type 0) : Type 0 where
+pub data Follows (s₀ s : State) (stop : Option Stop) (R : Type 0) : Type 0 where
   sticks : s.status ≡ stuck → Follows s₀ s stop R
   stops : goes_on stop ≡ false → s.status ≡ status_of stop → s.answers ≡ s₀.answers → Follows s₀ s stop R
-  goes : s.status ≡ going → stop ≡ Going → R → Follows s₀ s stop R
+  goes : s.status ≡ going → stop ≡ None → R → Follows s₀ s stop R
 
-pub follows_map : {s₀ s : State} {stop : Stop} {R Q : Type 0} → (R → Q) → Follows s₀ s stop R → Follows s₀ s stop Q
+pub follows_map : {s₀ s : State} {stop : Option Stop} {R Q : Type 0} → (R → Q) → Follows s₀ s stop R → Follows s₀ s stop Q
 follows_map f (sticks x) = sticks x
 follows_map f (stops x y z) = stops x y z
 follows_map f (goes x y r) = goes x y (f r)
 
 -- ## Lists
 
-values_length : (b : Bindings) (i : ℕ) (es : List QueryEntry) (ws : List ℕ) → values_of b i es ≡ some ws → length ws ≡ length es
+values_length : (b : Bindings) (i : ℕ) (es : List QueryEntry) (ws : List ℕ) → values_of b i es ≡ Some ws → length ws ≡ length es
 values_length b i [] ws e = ap length (sym (some_inj e))
 values_length b i (q ∷ es) ws e = by (value_of b i q) (values_of b i es) (values_length b i es) e
   where
-    by : (o : Option ℕ) (os : Option (List ℕ)) → ((ws : List ℕ) → os ≡ some ws → length ws ≡ length es) → cons? o os ≡ some ws → length ws ≡ suc (length es)
-    by none os h e = absurd (none_some e)
-    by (some x) none h e = absurd (none_some e)
-    by (some x) (some xs) h e = ap length (sym (some_inj e)) ∙ ap suc (h xs refl)
+    by : (o : Option ℕ) (os : Option (List ℕ)) → ((ws : List ℕ) → os ≡ Some ws → length ws ≡ length es) → cons? o os ≡ Some ws → length ws ≡ suc (length es)
+    by None os h e = absurd (none_some e)
+    by (Some x) None h e = absurd (none_some e)
+    by (Some x) (Some xs) h e = ap length (sym (some_inj e)) ∙ ap suc (h xs refl)
 
 -- what the machine reads of a list is what the code reads
 pub record ListIs (ws : List ℕ) (n : ℕ) (a : Args) : Type 0 where
@@ -86,7 +85,7 @@ pub record ListIs (ws : List ℕ) (n : ℕ) (a : Args) : Type 0 where
   pub few : n ≤ 16
 
 module _ (w : List ℕ) (b : Bindings) (i : ℕ) (h : i < 256) where
-  pub list_read : (l : Entries) (n : ℕ) (ws : List ℕ) → l.count ≤ 16 → All Named (entries_of w l) → list_of b i n (entries_of w l) ≡ some ws → ListIs ws n (listed w (columns_of b) i l)
+  pub list_read : (l : Entries) (n : ℕ) (ws : List ℕ) → l.count ≤ 16 → All Named (entries_of w l) → list_of b i n (entries_of w l) ≡ Some ws → ListIs ws n (listed w (columns_of b) i l)
   unfolding fetched
   list_read l n ws few named e =
       let p = only_some (eqb (length (entries_of w l)) n) (values_of b i (entries_of w l)) e in
@@ -129,15 +128,15 @@ pub bool_clash : true ≡ false → ⊥
 bool_clash e = let z : ◌≡◌ {A = ℕ} 0 1 = cc in omega arith
 
 -- where the code has stopped, so has the machine
-pub not_going : (o : Stop) (t : Status) → goes_on o ≡ false → t ≡ status_of o → is_going t ≡ false
-not_going Going t e q = absurd (bool_clash e)
-not_going Spent t e q = rw q
-not_going Full t e q = rw q
+pub not_going : (o : Option Stop) (t : Status) → goes_on o ≡ false → t ≡ status_of o → is_going t ≡ false
+not_going None t e q = absurd (bool_clash e)
+not_going (Some Spent) t e q = rw q
+not_going (Some Full) t e q = rw q
 
 -- ## A pass over the lanes, turn by turn in both
 
 -- f is the machine's turn and g the code's; lane i has a turn where who i says so
-pub record Pass {C : Type 0} (stop_of : C → Stop) (has : State → ℕ → Bool) (f : ℕ → State → State) (g : ℕ → C → C) (R : ℕ → State → C → Type 0) (who : ℕ → Bool) (n : ℕ) (s₀ : State) : Type 0 where
+pub record Pass {C : Type 0} (stop_of : C → Option Stop) (has : State → ℕ → Bool) (f : ℕ → State → State) (g : ℕ → C → C) (R : ℕ → State → C → Type 0) (who : ℕ → Bool) (n : ℕ) (s₀ : State) : Type 0 where
   pub quiet : (s : State) (i : ℕ) → is_going s.status ≡ false → has s i ≡ false
   pub same : (i : ℕ) (s : State) (c : C) → i < n → s.status ≡ going → R i s c → has s i ≡ who i
   pub past : (i : ℕ) → n ≤ i → who i ≡ false
@@ -145,10 +144,10 @@ pub record Pass {C : Type 0} (stop_of : C → Stop) (has : State → ℕ → Boo
   pub idle : (i : ℕ) (c : C) → who i ≡ false → g i c ≡ c
   pub kept : (i : ℕ) (s : State) (c : C) → R i s c → s.answers ≡ s₀.answers
   pub skip : (i : ℕ) (s : State) (c : C) → i < n → who i ≡ false → R i s c → R (suc i) s c
-  pub turn : (i : ℕ) (s : State) (c : C) → i < n → who i ≡ true → s.status ≡ going → stop_of c ≡ Going → R i s c → Follows s (f i s) (stop_of (g i c)) (R (suc i) (f i s) (g i c))
+  pub turn : (i : ℕ) (s : State) (c : C) → i < n → who i ≡ true → s.status ≡ going → stop_of c ≡ None → R i s c → Follows s (f i s) (stop_of (g i c)) (R (suc i) (f i s) (g i c))
 
-module _ {C : Type 0} (stop_of : C → Stop) (has : State → ℕ → Bool) (f : ℕ → State → State) (g : ℕ → C → C) (R : ℕ → State → C → Type 0) (who : ℕ → Bool) (n : ℕ) (s₀ : State) (p : Pass stop_of has f g R who n s₀) (c₀ : C)
-    (start : s₀.status ≡ going) (on : stop_of c₀ ≡ Going) (begin : R 0 s₀ c₀) where
+module _ {C : Type 0} (stop_of : C → Option Stop) (has : State → ℕ → Bool) (f : ℕ → State → State) (g : ℕ → C → C) (R : ℕ → State → C → Type 0) (who : ℕ → Bool) (n : ℕ) (s₀ : State) (p : Pass stop_of has f g R who n s₀) (c₀ : C)
+    (start : s₀.status ≡ going) (on : stop_of c₀ ≡ None) (begin : R 0 s₀ c₀) where
   abbrev ran : ℕ → State
   ran i = iter (λ i s. when (has s i) (f i) s) i s₀
 
@@ -159,7 +158,7 @@ module _ {C : Type 0} (stop_of : C → Stop) (has : State → ℕ → Bool) (f :
   mid zero h = goes start on begin
   mid (suc i) h = by (mid i (omega arith))
     where
-      turned : (b : Bool) → who i ≡ b → (ran i).status ≡ going → stop_of (did i) ≡ Going → R i (ran i) (did i) → Follows s₀ (when b (f i) (ran i)) (stop_of (g i (did i))) (R (suc i) (when b (f i) (ran i)) (g i (did i)))
+      turned : (b : Bool) → who i ≡ b → (ran i).status ≡ going → stop_of (did i) ≡ None → R i (ran i) (did i) → Follows s₀ (when b (f i) (ran i)) (stop_of (g i (did i))) (R (suc i) (when b (f i) (ran i)) (g i (did i)))
       turned true e a b r = chain (p.turn i (ran i) (did i) (omega arith) e a b r)
         where
           chain : Follows (ran i) (f i (ran i)) (stop_of (g i (did i))) (R (suc i) (f i (ran i)) (g i (did i))) → Follows s₀ (f i (ran i)) (stop_of (g i (did i))) (R (suc i) (f i (ran i)) (g i (did i)))

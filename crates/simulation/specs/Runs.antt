@@ -1,12 +1,11 @@
 -- A run of a book's steps in the code and in the machine, with the bodies of the answers at the front of the answer's words; `proofs/Runs` goes step by step.
 use Prim.Native.Nat.{ℕ, suc, ◌+◌, ◌-◌, ◌<◌, ◌≤◌}
-use Rattle.std.specs.Prelude.{◌≡◌, Bool, cond, get_or, set, take}
+use Rattle.std.specs.Prelude.{◌≡◌, Bool, cond, get_or, set, take, Option, None, Some, slice_get}
 use Rattle.std.proofs.Math.Path.{refl, sym, ap, subst}
 use Rattle.std.proofs.Common.{◌∙◌, arith, take-suc-set}
 use Rattle.std.proofs.Math.Bool.{true, false, not}
-use Rattle.std.proofs.Math.Option.{Option, none, some}
 use mathlib.Core.List.{List, [], ◌∷◌, ◌++◌, map, map-append, reverse, reverse-cons, append-nil, append_assoc}
-use Rattle.std.proofs.Math.ListN.{length, get_elem?, length-append, length-set}
+use Rattle.std.proofs.Math.ListN.{length, length-append, length-set}
 use Rattle.model.specs.Basics.{found, join, tab, least}
 use Rattle.model.specs.Book.Words.{Refusal}
 use Rattle.model.specs.Book.Contents.{first_of, end_of, kind_of, first_step, step_count}
@@ -21,7 +20,6 @@ use Rattle.model.specs.Laws.Lists.{least_none}
 use Rattle.model.specs.Laws.Book.{Readable, few_steps}
 use Rattle.rules.specs.RuleLaws.{at_tab}
 use Rattle.rules.specs.StepLaws.{step_batch, step_prediction}
-use Rattle.execution.specs.declared.Stop.TheVariants.{Going}
 use Rattle.execution.specs.declared.ExecutionState.{ExecutionState}
 use Rattle.execution.specs.Execution.{goes_on}
 use Rattle.predict.specs.Predict.{Gotten}
@@ -59,7 +57,7 @@ pub record RunIs (w : List ℕ) (L k : ℕ) (s : State) (a : Ran) : Type 0 where
 pub data Runs (w : List ℕ) (L k : ℕ) (s : State) (a : Ran) : Type 0 where
   sticking : s.status ≡ stuck → Runs w L k s a
   stopped : goes_on a.progress.state.stop ≡ false → s.status ≡ status_of a.progress.state.stop → a.progress.done ≡ length s.answers → Runs w L k s a
-  going_on : s.status ≡ going → a.progress.state.stop ≡ Going → RunIs w L k s a → Runs w L k s a
+  going_on : s.status ≡ going → a.progress.state.stop ≡ None → RunIs w L k s a → Runs w L k s a
 
 join_snoc : (ls : List (List ℕ)) (l : List ℕ) → join (ls ++ (l ∷ [])) ≡ join ls ++ l
 join_snoc [] l = append-nil l
@@ -96,7 +94,7 @@ module _ (w : List ℕ) (L k : ℕ) (below : k < 64) (s : State) (a : Ran) (r : 
 
 -- ## One step more
 
-module _ (w : List ℕ) (h : Readable w) (L : ℕ) (short : L ≤ 16384) (no_steps : steps_refusal w ≡ none) where
+module _ (w : List ℕ) (h : Readable w) (L : ℕ) (short : L ≤ 16384) (no_steps : steps_refusal w ≡ None) where
   fits_all : (k : ℕ) → k < step_count w → step_fits (read.tables w) (rules w) (read.step w k) ≡ true
   unfolding steps_refusal
   fits_all k l = by (step_fits (read.tables w) (rules w) (read.step w k)) (least_none (λ k. not (step_fits (read.tables w) (rules w) (read.step w k))) (step_count w) (none_found (least (λ k. not (step_fits (read.tables w) (rules w) (read.step w k))) (step_count w)) no_steps) k l)
@@ -105,11 +103,11 @@ module _ (w : List ℕ) (h : Readable w) (L : ℕ) (short : L ≤ 16384) (no_ste
       by true e = refl
       by false e = sym e
 
-      none_found : (o : Option ℕ) → ◌≡◌ {A = Option Refusal} (found o (λ k. some (record { number = 11; place = first_step w + k })) (λ _. none)) none → o ≡ none
-      none_found none e = refl
-      none_found (some k) e = absurd (none_some (sym e))
+      none_found : (o : Option ℕ) → ◌≡◌ {A = Option Refusal} (found o (λ k. Some (record { number = 11; place = first_step w + k })) (λ _. None)) None → o ≡ None
+      none_found None e = refl
+      none_found (Some k) e = absurd (none_some (sym e))
 
-  module _ (k : ℕ) (l : k < step_count w) (s : State) (a : Ran) (going-s : s.status ≡ going) (going-a : a.progress.state.stop ≡ Going) (r : RunIs w L k s a) where
+  module _ (k : ℕ) (l : k < step_count w) (s : State) (a : Ran) (going-s : s.status ≡ going) (going-a : a.progress.state.stop ≡ None) (r : RunIs w L k s a) where
     abbrev i : ℕ
     i = first_step w + k
 
@@ -172,6 +170,6 @@ module _ (w : List ℕ) (h : Readable w) (L : ℕ) (short : L ≤ 16384) (no_ste
   abbrev ran : ℕ → State
   ran n = run (machine w L) (counters w) (steps w) n
 
-  pub its_step : (k : ℕ) → k < step_count w → get_elem? (steps w) k ≡ some (read.step w k)
+  pub its_step : (k : ℕ) → k < step_count w → slice_get (steps w) k ≡ Some (read.step w k)
   unfolding steps
   its_step k l = at_tab (read.step w) (step_count w) k l

@@ -1,11 +1,10 @@
 -- The lanes that a lookup-or-insert missed: each is served from the predicted rows, in the code as in the machine.
-use Rattle.std.specs.Prelude.{ℕ, suc, ◌+◌, ◌*◌, ◌<◌, ◌≤◌, ◌≡◌, ◌≢◌, Bool, ◌&&◌, cond, eqb, set}
+use Rattle.std.specs.Prelude.{ℕ, suc, ◌+◌, ◌*◌, ◌<◌, ◌≤◌, ◌≡◌, ◌≢◌, Bool, ◌&&◌, cond, eqb, set, Option, None, Some, slice_get}
 use Rattle.std.proofs.Math.Path.{refl, ap, subst}
 use Rattle.std.proofs.Common.{sym, ◌∙◌, arith, length-set, get_or-set_same}
 use Rattle.std.proofs.Math.Bool.{true, false}
-use Rattle.std.proofs.Math.Option.{Option, none, some}
 use mathlib.Core.List.{List, []}
-use Rattle.std.proofs.Math.ListN.{length, get_or, get_elem?, get_or-eq_default}
+use Rattle.std.proofs.Math.ListN.{length, get_or, get_or-eq_default}
 use Rattle.std.proofs.Math.Seq.{get_or-set_other}
 use Rattle.model.specs.Basics.{All}
 use Rattle.model.specs.Book.Syntax.{QueryEntry}
@@ -21,8 +20,6 @@ use Rattle.model.specs.Laws.Book.{keys_of, width_of, table_is, table_keys}
 use Rattle.model.specs.Laws.Bodies.{length_part}
 use Rattle.ids.specs.declared.TableId.{TableId}
 use Rattle.ids.specs.declared.ColumnId.{ColumnId}
-use Rattle.tables.specs.declared.Found.{Found}
-use Rattle.tables.specs.declared.Found.TheVariants.{At, Nothing}
 use Rattle.tables.specs.Tables.{info_of, front, found_row}
 use Rattle.tables.specs.TablesLaws.{row_found, find_model, found_within}
 use Rattle.predicted_index.specs.Home.{home_of}
@@ -35,7 +32,6 @@ use Rattle.instr.specs.declared.Entries.{Entries}
 use Rattle.instr.specs.Instr.{write_at}
 use Rattle.instr.specs.Meaning.{entry_of, entries_of, writes_of}
 use Rattle.lanes.specs.Lanes.{listed, asked}
-use Rattle.execution.specs.declared.Stop.TheVariants.{Going}
 use Rattle.execution.specs.Execution.{goes_on, is_going}
 use Rattle.predict.specs.declared.Asking.{Asking}
 use Rattle.predict.specs.Predict.{Held, Gotten, Served, gotten, taken, taken_word, served_lane, served_lanes}
@@ -45,7 +41,7 @@ use Rattle.simulation.specs.Building.{Writable}
 use Rattle.simulation.specs.Predicting.{TableOk, HasRow, got_read, got_ind}
 
 -- what can be read with a variable held out can be read
-pub held_list : (x : ℕ) (b : Bindings) (i n : ℕ) (es : List QueryEntry) (ws : List ℕ) → list_of (hold x b) i n es ≡ some ws → list_of b i n es ≡ some ws
+pub held_list : (x : ℕ) (b : Bindings) (i n : ℕ) (es : List QueryEntry) (ws : List ℕ) → list_of (hold x b) i n es ≡ Some ws → list_of b i n es ≡ Some ws
 held_list x b i n es ws e =
     let p = only_some (eqb (length es) n) (values_of (hold x b) i es) e in
     only_T (eqb (length es) n) (values_of b i es) p.0 ∙ held_values x b i es ws p.1
@@ -54,16 +50,16 @@ held_list x b i n es ws e =
 pub record OutIs (n : ℕ) (out : List (Option ℕ)) (words : List ℕ) : Type 0 where
   pub marks : length out ≡ n
   pub size : length words ≡ 256
-  pub word : (j : ℕ) → j < n → get_or words j 0 ≡ or_stale (get_or out j none)
+  pub word : (j : ℕ) → j < n → get_or words j 0 ≡ or_stale (get_or out j None)
 
-out_more : (n i y : ℕ) (out : List (Option ℕ)) (words : List ℕ) → n ≤ 256 → i < n → OutIs n out words → OutIs n (set out i (some y)) (set words i y)
+out_more : (n i y : ℕ) (out : List (Option ℕ)) (words : List ℕ) → n ≤ 256 → i < n → OutIs n out words → OutIs n (set out i (Some y)) (set words i y)
 out_more n i y out words l h o = record {
-  marks = length-set out i (some y) ∙ o.marks;
+  marks = length-set out i (Some y) ∙ o.marks;
   size = length-set words i y ∙ o.size;
   word = λ j k.
       either
-      (λ (e : j ≡ i). rw (e, get_or-set_same words i y 0 (omega (arith, o.size)), get_or-set_same out i (some y) none (omega (arith, o.marks))))
-      (λ (d : j ≢ i). get_or-set_other words i j y 0 d ∙ o.word j k ∙ ap or_stale (sym (get_or-set_other out i j (some y) none d)))
+      (λ (e : j ≡ i). rw (e, get_or-set_same words i y 0 (omega (arith, o.size)), get_or-set_same out i (Some y) None (omega (arith, o.marks))))
+      (λ (d : j ≢ i). get_or-set_other words i j y 0 d ∙ o.word j k ∙ ap or_stale (sym (get_or-set_other out i j (Some y) None d)))
       (eq_or_not i j);
 }
 
@@ -92,7 +88,7 @@ module _ (w : List ℕ) (L : ℕ) (short : L ≤ 16384) (s₀ : State) (small : 
     pub answers : s.answers ≡ s₀.answers
     pub is : LogIs w L s.log s.counters s.changed c.state c.log c.index
     pub out : OutIs n s.out c.out
-    pub later : (j : ℕ) → i ≤ j → get_or s.out j none ≡ get_or s₀.out j none
+    pub later : (j : ℕ) → i ≤ j → get_or s.out j None ≡ get_or s₀.out j None
 
   abbrev turn : ℕ → ℕ → ℕ → State → State
   turn k j i = serve_missed (machine w L) (here k j i) dst t (entries_of w args) (writes_of w vals) col
@@ -102,30 +98,30 @@ module _ (w : List ℕ) (L : ℕ) (short : L ≤ 16384) (s₀ : State) (small : 
   key_in i = (listed w m i args).vals
 
   -- a lane that was missed has no committed row, since that would have the column
-  no_row : (i : ℕ) (key : List ℕ) → front (key_in i) (keys_of w t) ≡ key → col < width_of w t → asked w m (row_ask w id args column) i ≡ none → find (table_of (machine w L) t).keys (table_of (machine w L) t).rows key ≡ none
+  no_row : (i : ℕ) (key : List ℕ) → front (key_in i) (keys_of w t) ≡ key → col < width_of w t → asked w m (row_ask w id args column) i ≡ None → find (table_of (machine w L) t).keys (table_of (machine w L) t).rows key ≡ None
   unfolding asked row_of slot_of probed read_table
   no_row i key e l miss = rw (← e, table_is w t table.known) (find_model w (first_of w t) (key_in i) ∙ by (found_row w (info_of w t) (key_in i)) refl miss)
     where
-      by : (f : Found) → found_row w (info_of w t) (key_in i) ≡ f → get_elem? (committed_part w (width_of w t) f []) col ≡ none → row_found w (width_of w t) f ≡ none
-      by Nothing q z = refl
-      by (At p) q z =
+      by : (f : Option ℕ) → found_row w (info_of w t) (key_in i) ≡ f → slice_get (committed_part w (width_of w t) f []) col ≡ None → row_found w (width_of w t) f ≡ None
+      by None q z = refl
+      by (Some p) q z =
           let n : length (part w p (width_of w t)) ≡ width_of w t = length_part w p (width_of w t) (omega (arith, found_within w (info_of w t) (key_in i) p q, table.stands.rows)) in
           absurd (none_some (sym z ∙ at_here (part w p (width_of w t)) col 0 (omega arith)))
 
   -- a column of the row that was got
-  took_row : (k j i : ℕ) (s : State) (c : Served) → i < n → s.status ≡ going → Serving i s c → (key : List ℕ) → front (key_in i) (keys_of w t) ≡ key → asked w m (row_ask w id args column) i ≡ none → (made : Bool) (r : List ℕ) (s' : State) (g : Gotten) → HasRow w L t key (note (reads (here k j i) key) s) made r s' g
+  took_row : (k j i : ℕ) (s : State) (c : Served) → i < n → s.status ≡ going → Serving i s c → (key : List ℕ) → front (key_in i) (keys_of w t) ≡ key → asked w m (row_ask w id args column) i ≡ None → (made : Bool) (r : List ℕ) (s' : State) (g : Gotten) → HasRow w L t key (note (reads (here k j i) key) s) made r s' g
       → Follows s (take_column (here k j i) col r (note (asks (here k j i) t key r) s')) (taken w ask (key_in i) i c.out g).state.stop (Serving (suc i) (take_column (here k j i) col r (note (asks (here k j i) t key r) s')) (taken w ask (key_in i) i c.out g))
   unfolding take_column
-  took_row k j i s c l a v key key_is miss made r s' g h = need_ind (λ z. Follows s z (taken w ask (key_in i) i c.out g).state.stop (Serving (suc i) z (taken w ask (key_in i) i c.out g))) (get_elem? r col) _ _ (sticks refl) given
+  took_row k j i s c l a v key key_is miss made r s' g h = need_ind (λ z. Follows s z (taken w ask (key_in i) i c.out g).state.stop (Serving (suc i) z (taken w ask (key_in i) i c.out g))) (slice_get r col) _ _ (sticks refl) given
     where
-      given : (y : ℕ) → get_elem? r col ≡ some y → let z : State = give i y (note (took (here k j i) r) (note (asks (here k j i) t key r) s')) in Follows s z g.got.state.stop (Serving (suc i) z (taken w ask (key_in i) i c.out g))
+      given : (y : ℕ) → slice_get r col ≡ Some y → let z : State = give i y (note (took (here k j i) r) (note (asks (here k j i) t key r) s')) in Follows s z g.got.state.stop (Serving (suc i) z (taken w ask (key_in i) i c.out g))
       given y e = goes (h.status ∙ a) h.goes_on_lem (record {
         bindings = h.kept.bindings ∙ v.bindings;
         live = h.kept.live ∙ v.live;
         answers = h.kept.answers ∙ v.answers;
         is = h.is;
-        out = subst (λ (words : List ℕ). OutIs n (set s'.out i (some y)) words) (sym word) (subst (λ (o : List (Option ℕ)). OutIs n (set o i (some y)) (set c.out i y)) (sym h.kept.out) (out_more n i y s.out c.out small l v.out));
-        later = λ q p. ap (λ (o : List (Option ℕ)). get_or (set o i (some y)) q none) h.kept.out ∙ get_or-set_other s.out i q (some y) none (λ e. omega arith) ∙ v.later q (omega arith);
+        out = subst (λ (words : List ℕ). OutIs n (set s'.out i (Some y)) words) (sym word) (subst (λ (o : List (Option ℕ)). OutIs n (set o i (Some y)) (set c.out i y)) (sym h.kept.out) (out_more n i y s.out c.out small l v.out));
+        later = λ q p. ap (λ (o : List (Option ℕ)). get_or (set o i (Some y)) q None) h.kept.out ∙ get_or-set_other s.out i q (Some y) None (λ e. omega arith) ∙ v.later q (omega arith);
       })
         where
           row : row_of home_of w g.log g.index (sought_in w id) (key_in i) ≡ r
@@ -137,7 +133,7 @@ module _ (w : List ℕ) (L : ℕ) (short : L ≤ 16384) (s₀ : State) (small : 
           word : (taken w ask (key_in i) i c.out g).out ≡ set c.out i y
           word = subst (λ (u : Bool). cond u (taken_word w ask (key_in i) i g.log g.index c.out) c.out ≡ set c.out i y) (sym (ap goes_on h.goes_on_lem)) (ap (set c.out i) (ap (λ (q : List ℕ). get_or q col 0) row ∙ is_y))
 
-  serve_turn : (k j i : ℕ) (s : State) (c : Served) → i < n → s.status ≡ going → c.state.stop ≡ Going → Serving i s c → asked w m (row_ask w id args column) i ≡ none
+  serve_turn : (k j i : ℕ) (s : State) (c : Served) → i < n → s.status ≡ going → c.state.stop ≡ None → Serving i s c → asked w m (row_ask w id args column) i ≡ None
       → let d : Served = served_lane w m ask true i c in Follows s (turn k j i s) d.state.stop (Serving (suc i) (turn k j i s) d)
   unfolding serve_missed served_lane
   serve_turn k j i s c l a b v miss = subst (λ (d : Served). Follows s (turn k j i s) d.state.stop (Serving (suc i) (turn k j i s) d)) (sym (when_T (is_going c.state) _ c (ap goes_on b))) (need_ind (λ z. Follows s z code.state.stop (Serving (suc i) z code)) (list_of (hold dst s.bindings) i (table_of (machine w L) t).keys (entries_of w args)) s _ (sticks refl) read)
@@ -151,7 +147,7 @@ module _ (w : List ℕ) (L : ℕ) (short : L ≤ 16384) (s₀ : State) (small : 
       code : Served
       code = taken w ask (key_in i) i c.out g
 
-      read : (key : List ℕ) → list_of (hold dst s.bindings) i (table_of (machine w L) t).keys (entries_of w args) ≡ some key
+      read : (key : List ℕ) → list_of (hold dst s.bindings) i (table_of (machine w L) t).keys (entries_of w args) ≡ Some key
           → let z : State = predict_row (machine w L) (here k j i) (hold dst s.bindings) t key (writes_of w vals) (note (reads (here k j i) key) s) (λ _ r s'. take_column (here k j i) col r (note (asks (here k j i) t key r) s')) in Follows s z code.state.stop (Serving (suc i) z code)
       read key e =
           let key_is : ListIs key (keys_of w t) (listed w m i args) = list_read w s₀.bindings i (omega arith) args (keys_of w t) key short-key named (rw (v.bindings, table_keys w t table.known) at (held_list dst s.bindings i (table_of (machine w L) t).keys (entries_of w args) key e)) in
@@ -181,13 +177,13 @@ module _ (w : List ℕ) (L : ℕ) (short : L ≤ 16384) (s₀ : State) (small : 
   idle i c = refl
 
   -- `who` are the live lanes that have no dst yet: their lookup was not answered
-  pub serve_pass : (k j : ℕ) (who : List Bool) → ((i : ℕ) → get_or who i false ≡ get_or s₀.live i false && is_none (get_or s₀.out i none)) → ((i : ℕ) → i < 256 → get_or who i false ≡ true → asked w m (row_ask w id args column) i ≡ none)
-      → (c₀ : Served) → s₀.status ≡ going → c₀.state.stop ≡ Going → LogIs w L s₀.log s₀.counters s₀.changed c₀.state c₀.log c₀.index → OutIs n s₀.out c₀.out
+  pub serve_pass : (k j : ℕ) (who : List Bool) → ((i : ℕ) → get_or who i false ≡ get_or s₀.live i false && is_none (get_or s₀.out i None)) → ((i : ℕ) → i < 256 → get_or who i false ≡ true → asked w m (row_ask w id args column) i ≡ None)
+      → (c₀ : Served) → s₀.status ≡ going → c₀.state.stop ≡ None → LogIs w L s₀.log s₀.counters s₀.changed c₀.state c₀.log c₀.index → OutIs n s₀.out c₀.out
       → let s : State = missed (turn k j) s₀ in
       let c : Served = served_lanes w m ask who c₀ in
       Follows s₀ s c.state.stop (Serving n s c)
   unfolding missed served_lanes
-  serve_pass k j who waits misses c₀ a b is out = pass_ends (λ c. c.state.stop) (λ s i. is_live s i && is_none (get_or s.out i none)) (turn k j) (λ i. served_lane w m ask (get_or who i false) i) Serving (λ i. get_or who i false) n s₀ (record {
+  serve_pass k j who waits misses c₀ a b is out = pass_ends (λ c. c.state.stop) (λ s i. is_live s i && is_none (get_or s.out i None)) (turn k j) (λ i. served_lane w m ask (get_or who i false) i) Serving (λ i. get_or who i false) n s₀ (record {
     quiet = λ s i e. rw e;
     same = λ i s c l e v. rw (e, v.live, v.later i (omega arith)) (sym (waits i));
     past = λ i l. waits i ∙ rw (get_or-eq_default s₀.live false {n = i} l);

@@ -1,9 +1,8 @@
 -- Inserts and removals: what the lanes stage in the code is what they stage in the machine.
-use Rattle.std.specs.Prelude.{ℕ, ◌<◌, ◌≤◌, ◌≡◌, Bool, ◌&&◌, eqb, leb, length}
+use Rattle.std.specs.Prelude.{ℕ, ◌<◌, ◌≤◌, ◌≡◌, Bool, ◌&&◌, eqb, leb, length, Some, None}
 use Rattle.std.proofs.Math.Path.{refl, ap, subst}
 use Rattle.std.proofs.Common.{sym, ◌∙◌, arith, leb-true}
 use Rattle.std.proofs.Math.Bool.{true, false, cond}
-use Rattle.std.proofs.Math.Option.{some}
 use mathlib.Core.List.{List, [], ◌∷◌, ◌++◌}
 use Rattle.std.proofs.Math.Decide.{dec_lt}
 use Rattle.std.proofs.Math.ListN.{get_or, get_or-eq_default}
@@ -19,7 +18,6 @@ use Rattle.model.specs.Laws.Lists.{length_tab, get_or_tab}
 use Rattle.model.specs.Laws.Book.{keys_of}
 use Rattle.model.specs.Laws.Turns.{need_ind, when_T, when_F}
 use Rattle.args.specs.declared.Args.{Args}
-use Rattle.record_log.specs.declared.Appended.TheVariants.{Used, Full as NoRoom}
 use Rattle.record_log.specs.Log.{record_of, log_of, appended, stored}
 use Rattle.record_log.specs.LogLaws.{append_answer, append_log}
 use Rattle.predicted_index.specs.Home.{home_of}
@@ -37,7 +35,6 @@ use Rattle.lanes.specs.Lanes.{listed, holds, kept}
 use Rattle.record_log.specs.RecordLaws.{Sized}
 use Rattle.execution.specs.declared.Change.{Change}
 use Rattle.execution.specs.declared.Change.TheVariants.{Insert, Remove}
-use Rattle.execution.specs.declared.Stop.TheVariants.{Going}
 use Rattle.execution.specs.declared.ExecutionState.{ExecutionState}
 use Rattle.execution.specs.Execution.{goes_on, is_going as code_goes, changing, Logged, after_append, staged, record_kind, staged_lane, staged_lanes}
 use Rattle.simulation.specs.Represents.{machine, LogIs, Follows, sticks, stops, goes, ListIs, list_read, front_list, pass_ends}
@@ -64,10 +61,10 @@ module _ (w : List ℕ) (L : ℕ) where
     abbrev all : List Record
     all = records ++ (r ∷ [])
 
-    pub stage_is : staged r.kind r.table row n (record { state = x; log = log }) ≡ record { state = after_append (cond (leb (log_words all) L) (Used (log_words all)) NoRoom) x; log = cond (leb (log_words all) L) (log_of all L) (log_of records L) }
+    pub stage_is : staged r.kind r.table row n (record { state = x; log = log }) ≡ record { state = after_append (cond (leb (log_words all) L) (Some (log_words all)) None) x; log = cond (leb (log_words all) L) (log_of all L) (log_of records L) }
     unfolding staged
     stage_is =
-        let a : appended log x.used (record_of r.kind r.table row n) ≡ cond (leb (log_words all) L) (Used (log_words all)) NoRoom = rw (is.log_is, is.used, e) (append_answer records L r is.fits) in
+        let a : appended log x.used (record_of r.kind r.table row n) ≡ cond (leb (log_words all) L) (Some (log_words all)) None = rw (is.log_is, is.used, e) (append_answer records L r is.fits) in
         let b : stored log x.used (record_of r.kind r.table row n) ≡ cond (leb (log_words all) L) (log_of all L) (log_of records L) = rw (is.log_is, is.used, e) (append_log records L r is.fits) in
         rw (a, b)
 
@@ -89,10 +86,10 @@ module _ (w : List ℕ) (L : ℕ) where
       abbrev new : Record
       new = record { site = o; kind = kind; table = t; words = ws }
 
-      staged_turn : (s : State) (c : Logged) → s.status ≡ going → c.state.stop ≡ Going → Staged s c → ListIs ws n (row o.lane)
+      staged_turn : (s : State) (c : Logged) → s.status ≡ going → c.state.stop ≡ None → Staged s c → ListIs ws n (row o.lane)
           → (b : Bool) → leb (log_words (s.log ++ (new ∷ []))) L ≡ b
           → let s' : State = if_room b new (change (note (reads o ws) s)) (λ s'. s') in
-          let c' : Logged = record { state = changing (after_append (cond b (Used (log_words (s.log ++ (new ∷ [])))) NoRoom) c.state); log = cond b (log_of (s.log ++ (new ∷ [])) L) (log_of s.log L) } in
+          let c' : Logged = record { state = changing (after_append (cond b (Some (log_words (s.log ++ (new ∷ [])))) None) c.state); log = cond b (log_of (s.log ++ (new ∷ [])) L) (log_of s.log L) } in
           Follows s s' c'.state.stop (Staged s' c')
       staged_turn s c a b m is true e = goes a b (record {
         kept = record { bindings = m.kept.bindings; live = m.kept.live; out = m.kept.out; answers = m.kept.answers };
@@ -109,17 +106,17 @@ module _ (w : List ℕ) (L : ℕ) where
       })
       staged_turn s c a b m is false e = stops refl refl refl
 
-    pub list_turn : (o : Site) (s : State) (c : Logged) → o.lane < 256 → s.status ≡ going → c.state.stop ≡ Going → Staged s c
+    pub list_turn : (o : Site) (s : State) (c : Logged) → o.lane < 256 → s.status ≡ going → c.state.stop ≡ None → Staged s c
         → Follows s (stage_list (machine w L) o kind t n (entries_of w l) s) (staged_lane what t (row o.lane) true c).state.stop (Staged (stage_list (machine w L) o kind t n (entries_of w l) s) (staged_lane what t (row o.lane) true c))
     unfolding stage_list staged_lane
     list_turn o s c h a b m = need_ind (λ s'. Follows s s' (staged_lane what t (row o.lane) true c).state.stop (Staged s' (staged_lane what t (row o.lane) true c))) (list_of s.bindings o.lane n (entries_of w l)) s _ (sticks refl) read
       where
-        read : (ws : List ℕ) → list_of s.bindings o.lane n (entries_of w l) ≡ some ws
+        read : (ws : List ℕ) → list_of s.bindings o.lane n (entries_of w l) ≡ Some ws
             → let s' : State = if_room (leb (log_words (s.log ++ (new o ws ∷ []))) L) (new o ws) (change (note (reads o ws) s)) (λ s'. s') in
             Follows s s' (staged_lane what t (row o.lane) true c).state.stop (Staged s' (staged_lane what t (row o.lane) true c))
         read ws e =
             let is : ListIs ws n (row o.lane) = list_read w s₀.bindings o.lane h l n ws few named (rw m.kept.bindings at e) in
-            let code : staged_lane what t (row o.lane) true c ≡ record { state = changing (after_append (cond (leb (log_words (s.log ++ (new o ws ∷ []))) L) (Used (log_words (s.log ++ (new o ws ∷ [])))) NoRoom) c.state); log = cond (leb (log_words (s.log ++ (new o ws ∷ []))) L) (log_of (s.log ++ (new o ws ∷ [])) L) (log_of s.log L) } =
+            let code : staged_lane what t (row o.lane) true c ≡ record { state = changing (after_append (cond (leb (log_words (s.log ++ (new o ws ∷ []))) L) (Some (log_words (s.log ++ (new o ws ∷ [])))) None) c.state); log = cond (leb (log_words (s.log ++ (new o ws ∷ []))) L) (log_of (s.log ++ (new o ws ∷ [])) L) (log_of s.log L) } =
             when_T (code_goes c.state) _ c (ap goes_on b) ∙ ap (λ (g : Logged). record { state = changing g.state; log = g.log }) (stage_is s.log s.counters s.changed c.state c.log index m.is (new o ws) (row o.lane).vals (row o.lane).count (record_is (new o ws) (row o.lane) n is)) in
             let s' : State = if_room (leb (log_words (s.log ++ (new o ws ∷ []))) L) (new o ws) (change (note (reads o ws) s)) (λ s'. s') in
             subst (λ (g : Logged). Follows s s' g.state.stop (Staged s' g)) (sym code) (staged_turn o ws s c a b m is (leb (log_words (s.log ++ (new o ws ∷ []))) L) refl)
@@ -140,9 +137,9 @@ module _ (w : List ℕ) (L : ℕ) where
 
     -- f stages where who says so, and does nothing of note elsewhere
     module _ (f : ℕ → State → State) (who : List Bool) (small : length s₀.live ≤ 256)
-        (turn : (i : ℕ) (s : State) (c : Logged) → i < length s₀.live → get_or s₀.live i false ≡ true → s.status ≡ going → c.state.stop ≡ Going → Staged s c → Follows s (f i s) (staged_lane what t (row i) (get_or who i false) c).state.stop (Staged (f i s) (staged_lane what t (row i) (get_or who i false) c)))
+        (turn : (i : ℕ) (s : State) (c : Logged) → i < length s₀.live → get_or s₀.live i false ≡ true → s.status ≡ going → c.state.stop ≡ None → Staged s c → Follows s (f i s) (staged_lane what t (row i) (get_or who i false) c).state.stop (Staged (f i s) (staged_lane what t (row i) (get_or who i false) c)))
         (dead : (i : ℕ) → get_or s₀.live i false ≡ false → get_or who i false ≡ false) where
-      pub stage_pass : (c₀ : Logged) → s₀.status ≡ going → c₀.state.stop ≡ Going → LogIs w L s₀.log s₀.counters s₀.changed c₀.state c₀.log index
+      pub stage_pass : (c₀ : Logged) → s₀.status ≡ going → c₀.state.stop ≡ None → LogIs w L s₀.log s₀.counters s₀.changed c₀.state c₀.log index
           → Follows s₀ (lanes f s₀) (staged_lanes what t row who c₀).state.stop (Staged (lanes f s₀) (staged_lanes what t row who c₀))
       unfolding lanes staged_lanes
       stage_pass c₀ a b is = pass_ends (λ c. c.state.stop) is_live f (λ i. staged_lane what t (row i) (get_or who i false)) (λ i s c. Staged s c) (λ i. get_or s₀.live i false) (length s₀.live) s₀ (record {
@@ -156,7 +153,7 @@ module _ (w : List ℕ) (L : ℕ) where
         turn = λ i s c l e x y m. turn i s c l e x y m;
       }) c₀ a b (record { kept = record { bindings = refl; live = refl; out = refl; answers = refl }; is = is }) small
 
-    pub list_pass : (k j : ℕ) → length s₀.live ≤ 256 → (c₀ : Logged) → s₀.status ≡ going → c₀.state.stop ≡ Going → LogIs w L s₀.log s₀.counters s₀.changed c₀.state c₀.log index
+    pub list_pass : (k j : ℕ) → length s₀.live ≤ 256 → (c₀ : Logged) → s₀.status ≡ going → c₀.state.stop ≡ None → LogIs w L s₀.log s₀.counters s₀.changed c₀.state c₀.log index
         → let s : State = lanes (λ i. stage_list (machine w L) (here k j i) kind t n (entries_of w l)) s₀ in
         let c : Logged = staged_lanes what t row (padded s₀.live) c₀ in
         Follows s₀ s c.state.stop (Staged s c)
@@ -183,14 +180,14 @@ module _ (w : List ℕ) (L : ℕ) where
       abbrev turn : ℕ → ℕ → ℕ → State → State
       turn k j i = read_pair (here k j i) (entry_of a) (entry_of b) λ x y. when (eqb x y) (stage_list (machine w L) (here k j i) kind t n (entries_of w l))
 
-      pair_turn : (k j i : ℕ) (s : State) (c : Logged) → i < 256 → s.status ≡ going → c.state.stop ≡ Going → Staged s c → Follows s (turn k j i s) (staged_lane what t (row i) (equal i) c).state.stop (Staged (turn k j i s) (staged_lane what t (row i) (equal i) c))
+      pair_turn : (k j i : ℕ) (s : State) (c : Logged) → i < 256 → s.status ≡ going → c.state.stop ≡ None → Staged s c → Follows s (turn k j i s) (staged_lane what t (row i) (equal i) c).state.stop (Staged (turn k j i s) (staged_lane what t (row i) (equal i) c))
       unfolding read_pair holds
       pair_turn k j i s c h e o m = need_ind P (value_of s.bindings i (entry_of a)) s _ (sticks refl) (λ x p. need_ind P (value_of s.bindings i (entry_of b)) s _ (sticks refl) (λ y q. both x y (is a na x p) (is b nb y q)))
         where
           P : State → Type 0
           P s' = Follows s s' (staged_lane what t (row i) (equal i) c).state.stop (Staged s' (staged_lane what t (row i) (equal i) c))
 
-          is : (e : QueryEntry) → Named (entry_of e) → (x : ℕ) → value_of s.bindings i (entry_of e) ≡ some x → word_of (columns_of s₀.bindings) i (entry_of e) ≡ x
+          is : (e : QueryEntry) → Named (entry_of e) → (x : ℕ) → value_of s.bindings i (entry_of e) ≡ Some x → word_of (columns_of s₀.bindings) i (entry_of e) ≡ x
           is e n x p = word_is s₀.bindings i h (entry_of e) x n (rw m.kept.bindings at p)
 
           both : (x y : ℕ) → word_of (columns_of s₀.bindings) i (entry_of a) ≡ x → word_of (columns_of s₀.bindings) i (entry_of b) ≡ y → P (when (eqb x y) (stage_list (machine w L) (here k j i) kind t n (entries_of w l)) (note (reads (here k j i) (x ∷ y ∷ [])) s))
@@ -214,7 +211,7 @@ module _ (w : List ℕ) (L : ℕ) where
                   turned (goes x y z) = goes x y z
               by false = subst (λ (d : Logged). Follows s s₁ d.state.stop (Staged s₁ d)) (sym (idle i c)) (goes e o m₁)
 
-      pub if_pass : (k j : ℕ) → length s₀.live ≤ 256 → (c₀ : Logged) → s₀.status ≡ going → c₀.state.stop ≡ Going → LogIs w L s₀.log s₀.counters s₀.changed c₀.state c₀.log index
+      pub if_pass : (k j : ℕ) → length s₀.live ≤ 256 → (c₀ : Logged) → s₀.status ≡ going → c₀.state.stop ≡ None → LogIs w L s₀.log s₀.counters s₀.changed c₀.state c₀.log index
           → let s : State = lanes (turn k j) s₀ in
           let c : Logged = staged_lanes what t row who c₀ in
           Follows s₀ s c.state.stop (Staged s c)

@@ -1,13 +1,12 @@
 -- The steps: a batch and a prediction in the code and in the machine.
-use Rattle.std.specs.Prelude.{ℕ, zero, suc, ◌+◌, ◌*◌, ◌<◌, ◌≤◌, ◌≡◌, refl, Bool, ◌&&◌, ◌||◌, ltb, get_or}
+use Rattle.std.specs.Prelude.{ℕ, zero, suc, ◌+◌, ◌*◌, ◌<◌, ◌≤◌, ◌≡◌, refl, Bool, ◌&&◌, ◌||◌, ltb, get_or, Option, None, Some, slice_get}
 use Rattle.std.proofs.Math.Path.{sym, ap, subst}
 use Rattle.std.proofs.Common.{◌∙◌, arith, lt-ltb, le-ltb, eqb-true}
 use Rattle.std.proofs.Math.Bool.{true, false, or-true, or-false}
-use Rattle.std.proofs.Math.Option.{Option, none, some}
 use mathlib.Core.List.{List, [], ◌∷◌}
 use Rattle.std.proofs.Math.Decide.{dec_lt}
 use Rattle.std.proofs.Math.Dec.{eqb}
-use Rattle.std.proofs.Math.ListN.{length, get_elem?}
+use Rattle.std.proofs.Math.ListN.{length}
 use Rattle.std.proofs.lemmas.List.{length-replicate}
 use Rattle.model.specs.Basics.{when, found, only, tab}
 use Rattle.model.specs.Book.Syntax.{Rule, Counter, WriteVal, width}
@@ -42,12 +41,9 @@ use Rattle.predict.specs.Predict.{Held, Gotten, noted, by_row}
 use Rattle.predicted_index.specs.Row.{row_of}
 use Rattle.predicted_index.specs.RecordLaws.{at_past}
 use Rattle.tables.specs.Tables as tables
-use Rattle.tables.specs.declared.Found.{Found}
-use Rattle.tables.specs.declared.Found.TheVariants.{At as Committed, Nothing}
 use Rattle.tables.specs.Tables.{front}
 use Rattle.rules.specs.RuleLaws.{at_tab, At, small_here}
 use Rattle.rules.specs.StepLaws.{batch_test, prediction_test}
-use Rattle.execution.specs.declared.Stop.TheVariants.{Going}
 use Rattle.execution.specs.declared.ExecutionState.{ExecutionState}
 use Rattle.action.specs.Run.{Running}
 use Rattle.step.specs.Steps.{lane_count, start_batch, rule_of, ran_batch, row_asked, asked_row, row_answered}
@@ -69,7 +65,7 @@ all_live_padded zero n h = first_padded 1 (omega arith)
 all_live_padded (suc v) n h = first_padded n h
 
 -- a variable is bound where the batch has a column for it
-bound_below : (cs : List (List ℕ)) (u : ℕ) → ltb u (length cs) ≡ is_bound (get_elem? cs u)
+bound_below : (cs : List (List ℕ)) (u : ℕ) → ltb u (length cs) ≡ is_bound (slice_get cs u)
 bound_below cs u = elim (dec_lt u (length cs)) [ yes h ↦ lt-ltb u (length cs) h ∙ sym (ap is_bound (at_length cs u h).1) | no h ↦ le-ltb u (length cs) (omega arith) ∙ sym (ap is_bound (at_past cs u (omega arith))) ]
 
 module _ (w : List ℕ) (h : Readable w) (L : ℕ) (short : L ≤ 16384) where
@@ -91,13 +87,13 @@ module _ (w : List ℕ) (h : Readable w) (L : ℕ) (short : L ≤ 16384) where
     unfolding read_rule
     starts_is = sym (eqb-true v (get_or w (rule_of w at) 0) (and_split (eqb v (get_or w (rule_of w at) 0)) (ltb 0 v || eqb n 0) (sym (batch_test w h at words.rule) ∙ fit)).0)
 
-    column_size : (u : ℕ) (c : List ℕ) → get_elem? columns u ≡ some c → length c ≡ lane_count v n
+    column_size : (u : ℕ) (c : List ℕ) → slice_get columns u ≡ Some c → length c ≡ lane_count v n
     column_size u c e =
         let l : u < v = omega (arith, at_below columns u e, length_tab (λ c. part w (at + 3 + c * n) n) v) in
         let p : part w (at + 3 + u * n) n ≡ c = some_inj (sym (at_tab (λ c. part w (at + 3 + c * n) n) v u l) ∙ e) in
         ap length (sym p) ∙ length_part w (at + 3 + u * n) n (omega (arith, row_within u v n l)) ∙ lane_count_more v n (λ z. omega arith)
 
-    module _ (k : ℕ) (s : State) (x : ExecutionState) (log index : List ℕ) (a : s.status ≡ going) (o : x.stop ≡ Going) (is : LogIs w L s.log s.counters s.changed x log index) where
+    module _ (k : ℕ) (s : State) (x : ExecutionState) (log index : List ℕ) (a : s.status ≡ going) (o : x.stop ≡ None) (is : LogIs w L s.log s.counters s.changed x log index) where
       abbrev s₀ : State
       s₀ = begin k rule n columns s
 
@@ -129,7 +125,7 @@ module _ (w : List ℕ) (h : Readable w) (L : ℕ) (short : L ≤ 16384) where
       instr_here : (j : ℕ) → j < many → At w (get_or w at 0) j (instr_place w (rule_of w at) j) (code.instr_at w (instr_place w (rule_of w at) j))
       instr_here j l = record { readable = h; rule = words.rule; below = l; place = refl; is = refl }
 
-      pub its : (j : ℕ) → j < many → get_elem? rule.instrs j ≡ some (instr_at w (instr_place w (rule_of w at) j))
+      pub its : (j : ℕ) → j < many → slice_get rule.instrs j ≡ Some (instr_at w (instr_place w (rule_of w at) j))
       unfolding read_rule
       its j l = at_tab (λ j. instr_at w (instr_place w (rule_of w at) j)) many j l
 
@@ -202,14 +198,14 @@ module _ (w : List ℕ) (h : Readable w) (L : ℕ) (short : L ≤ 16384) where
     front_is = key_front a key (keys_of w t) key_is
 
     -- a prediction's write values read no variable
-    reads_constants : (m : List ℕ) → ReadsAs (λ _. none) 0 m
+    reads_constants : (m : List ℕ) → ReadsAs (λ _. None) 0 m
     reads_constants m (Var u) x q e = absurd (none_some e)
     reads_constants m (Const c) x q e = some_inj e
 
     ok_writes : (k : ℕ) → k < (row_asked w at).vals.count → Writable w (write_at w ((row_asked w at).vals.at + 2 * k))
     ok_writes k l = writable_at w h end_at 1 2 (at + 2 + long + 1 + 2 * k) (words.writes k l)
 
-    module _ (k : ℕ) (s : State) (x : ExecutionState) (m log index : List ℕ) (on : s.status ≡ going) (o : x.stop ≡ Going) (is : LogIs w L s.log s.counters s.changed x log index) where
+    module _ (k : ℕ) (s : State) (x : ExecutionState) (m log index : List ℕ) (on : s.status ≡ going) (o : x.stop ≡ None) (is : LogIs w L s.log s.counters s.changed x log index) where
       abbrev held : Held
       held = record { state = x; log = log; index = index }
 
@@ -223,7 +219,7 @@ module _ (w : List ℕ) (h : Readable w) (L : ℕ) (short : L ≤ 16384) where
         pub row_is : row_answered w at g.log g.index ≡ row
 
       abbrev s₁ : State
-      s₁ = frame (λ _. none) [] [] s
+      s₁ = frame (λ _. None) [] [] s
 
       abbrev answer : Bool → List ℕ → State → State
       answer new r s' = reply (predicted new r) (note (took (here k 0 0) r) (note (asks (here k 0 0) t key r) (when new change s')))
@@ -235,7 +231,7 @@ module _ (w : List ℕ) (h : Readable w) (L : ℕ) (short : L ≤ 16384) where
       kept_log : (g : Gotten) {records : List Record} {cs : List Counter} {ch : Bool} (ch' : Bool) → g.got.state.changed || g.got.made ≡ ch' → LogIs w L records cs ch g.got.state g.log g.index → LogIs w L records cs ch' (noted g.got).state g.log g.index
       kept_log g ch' e q = record { fits = q.fits; log_is = q.log_is; used = q.used; index_ok = q.index_ok; next = q.next; counted = q.counted; flag = e; sized = q.sized }
 
-      having : find (table_of (machine w L) t).keys (table_of (machine w L) t).rows key ≡ none → (made : Bool) (r : List ℕ) (s' : State) (g : Gotten) → HasRow w L t key s₁ made r s' g → Follows s (answer made r s') (from_log g).got.state.stop (RowDone (answer made r s') (from_log g))
+      having : find (table_of (machine w L) t).keys (table_of (machine w L) t).rows key ≡ None → (made : Bool) (r : List ℕ) (s' : State) (g : Gotten) → HasRow w L t key s₁ made r s' g → Follows s (answer made r s') (from_log g).got.state.stop (RowDone (answer made r s') (from_log g))
       unfolding row_answered
       having missing true r s' g q = goes (q.status ∙ on) q.goes_on_lem (record {
         row = r;
@@ -255,7 +251,7 @@ module _ (w : List ℕ) (h : Readable w) (L : ℕ) (short : L ≤ 16384) where
       })
 
       -- by the committed row
-      in_table : (p : ℕ) → tables.found_row w (tables.info_of w t) a.vals ≡ Committed p → let s' : State = reply (predicted false (part w p (width_of w t))) (note (took (here k 0 0) (part w p (width_of w t))) s₁) in Follows s s' x.stop (RowDone s' (by_row w m (row_asked w at) a held (Committed p)))
+      in_table : (p : ℕ) → tables.found_row w (tables.info_of w t) a.vals ≡ Some p → let s' : State = reply (predicted false (part w p (width_of w t))) (note (took (here k 0 0) (part w p (width_of w t))) s₁) in Follows s s' x.stop (RowDone s' (by_row w m (row_asked w at) a held (Some p)))
       unfolding row_answered row_of
       in_table p e = goes on o (record {
         row = part w p (width_of w t);
@@ -268,23 +264,23 @@ module _ (w : List ℕ) (h : Readable w) (L : ℕ) (short : L ≤ 16384) where
 
       pub prediction_follows : let s' : State = step (machine w L) k (read_prediction w at) s in let g : Gotten = asked_row w m at x log index in Follows s s' g.got.state.stop (RowDone s' g)
       unfolding step read_prediction predict asked_row flat.answered
-      prediction_follows = need_ind (λ z. Follows s z G.got.state.stop (RowDone z G)) (only (eqb (length key) (table_of (machine w L) t).keys && eqb (length key + length writes) (width (table_of (machine w L) t))) (some key)) s₁ _ (sticks refl) (λ _ _. by (tables.found_row w (tables.info_of w t) a.vals) refl)
+      prediction_follows = need_ind (λ z. Follows s z G.got.state.stop (RowDone z G)) (only (eqb (length key) (table_of (machine w L) t).keys && eqb (length key + length writes) (width (table_of (machine w L) t))) (Some key)) s₁ _ (sticks refl) (λ _ _. by (tables.found_row w (tables.info_of w t) a.vals) refl)
         where
           G : Gotten
           G = by_row w m (row_asked w at) a held (tables.found_row w (tables.info_of w t) a.vals)
 
           z : Option (List ℕ) → State
-          z f = found f (λ r. reply (predicted false r) (note (took (here k 0 0) r) s₁)) (λ _. predict_row (machine w L) (here k 0 0) (λ _. none) t key writes s₁ answer)
+          z f = found f (λ r. reply (predicted false r) (note (took (here k 0 0) r) s₁)) (λ _. predict_row (machine w L) (here k 0 0) (λ _. None) t key writes s₁ answer)
 
           find_is : find (table_of (machine w L) t).keys (table_of (machine w L) t).rows key ≡ row_found w (width_of w t) (tables.found_row w (tables.info_of w t) a.vals)
           find_is = rw (table_is w t words.table) (ap (find (read_table w (first_of w t)).keys (read_table w (first_of w t)).rows) (sym front_is ∙ ap (front a.vals) (sym (keys_is w (first_of w t)))) ∙ find_model w (first_of w t) a.vals)
 
-          by : (F : Found) → tables.found_row w (tables.info_of w t) a.vals ≡ F → let u : State = z (find (table_of (machine w L) t).keys (table_of (machine w L) t).rows key) in Follows s u G.got.state.stop (RowDone u G)
+          by : (F : Option ℕ) → tables.found_row w (tables.info_of w t) a.vals ≡ F → let u : State = z (find (table_of (machine w L) t).keys (table_of (machine w L) t).rows key) in Follows s u G.got.state.stop (RowDone u G)
           by F e = subst (λ (o : Option (List ℕ)). let u : State = z o in Follows s u G.got.state.stop (RowDone u G)) (sym (find_is ∙ ap (row_found w (width_of w t)) e))
-              (subst (λ (f : Found). let u : State = z (row_found w (width_of w t) F) in let g : Gotten = by_row w m (row_asked w at) a held f in Follows s u g.got.state.stop (RowDone u g)) (sym e) (at_last F e))
+              (subst (λ (f : Option ℕ). let u : State = z (row_found w (width_of w t) F) in let g : Gotten = by_row w m (row_asked w at) a held f in Follows s u g.got.state.stop (RowDone u g)) (sym e) (at_last F e))
             where
-              at_last : (F : Found) → tables.found_row w (tables.info_of w t) a.vals ≡ F → let u : State = z (row_found w (width_of w t) F) in let g : Gotten = by_row w m (row_asked w at) a held F in Follows s u g.got.state.stop (RowDone u g)
-              at_last (Committed p) e = in_table p e
-              at_last Nothing e = got_ind w L short s₁ x log index is o (record { 0 = t }) table (row_asked w at).vals words.vals ok_writes (here k 0 0) (λ _. none) m (reads_constants m) key a key_is
+              at_last : (F : Option ℕ) → tables.found_row w (tables.info_of w t) a.vals ≡ F → let u : State = z (row_found w (width_of w t) F) in let g : Gotten = by_row w m (row_asked w at) a held F in Follows s u g.got.state.stop (RowDone u g)
+              at_last (Some p) e = in_table p e
+              at_last None e = got_ind w L short s₁ x log index is o (record { 0 = t }) table (row_asked w at).vals words.vals ok_writes (here k 0 0) (λ _. None) m (reads_constants m) key a key_is
                   (λ u g. Follows s u (from_log g).got.state.stop (RowDone u (from_log g))) answer
                   (record { sticking = λ u g e. sticks e; stopping = λ u g p q r. stops p q r; having = having (find_is ∙ ap (row_found w (width_of w t)) e) })

@@ -1,12 +1,11 @@
 -- What a lane's turn in the plain machine does, in the terms of the code: w is the book's words.
-use Rattle.std.specs.Prelude.{ℕ, ◌+◌, ◌*◌, ◌<◌, ◌≤◌, ◌≡◌, refl, Bool, true, false, leb, drop, replicate}
+use Rattle.std.specs.Prelude.{ℕ, ◌+◌, ◌*◌, ◌<◌, ◌≤◌, ◌≡◌, refl, Bool, true, false, leb, drop, replicate, Option, None, Some, slice_get}
 use Rattle.std.proofs.Common.{sym, ◌∙◌, inl, inr, arith, eqb→eq}
 use Rattle.std.proofs.Math.Path.{ap, subst}
 use Rattle.std.proofs.Math.Bool.{not}
-use Rattle.std.proofs.Math.Option.{Option, none, some}
 use mathlib.Core.List.{List, [], ◌∷◌}
 use Rattle.std.proofs.Math.Dec.{eqb}
-use Rattle.std.proofs.Math.ListN.{length, get_elem?, take}
+use Rattle.std.proofs.Math.ListN.{length, take}
 use Rattle.model.specs.Basics.{found, only, when, All}
 use Rattle.model.specs.Book.Syntax.{QueryEntry as ModelEntry}
 use Rattle.model.specs.Book.Contents.{table_count}
@@ -44,8 +43,8 @@ use Rattle.lanes.specs.declared.Test.TheVariants.{Eq, Ne, AnyNe}
 
 -- the lane gets its answer; `miss` is what happens where there is none
 abbrev pub effect : Effect → Option ℕ → Effect
-effect miss none = miss
-effect miss (some x) = gives x
+effect miss None = miss
+effect miss (Some x) = gives x
 
 abbrev pub verdict : Bool → Effect
 verdict true = keeps
@@ -61,7 +60,7 @@ Judges b test f = (i : ℕ) (s : State) → i < 256 → s.bindings ≡ b → Doe
 
 -- what can be read while something is held out is as it was
 abbrev pub Holding : (Bindings → Bindings) → Type 0
-Holding held = (b : Bindings) (i : ℕ) (es : List ModelEntry) (ws : List ℕ) → values_of (held b) i es ≡ some ws → values_of b i es ≡ some ws
+Holding held = (b : Bindings) (i : ℕ) (es : List ModelEntry) (ws : List ℕ) → values_of (held b) i es ≡ Some ws → values_of b i es ≡ Some ws
 
 -- ## The same state but for its trace
 
@@ -92,16 +91,16 @@ verdict_does false i s = lose_does i s
 -- ## What is read
 
 module _ (w : List ℕ) (b : Bindings) (i : ℕ) (h : i < 256) (l : Entries) (short : l.count ≤ 16) (named : All Named (entries_of w l)) where
-  pub list_is : (ws : List ℕ) → values_of b i (entries_of w l) ≡ some ws → as_list (listed w (columns_of b) i l) ≡ ws
+  pub list_is : (ws : List ℕ) → values_of b i (entries_of w l) ≡ Some ws → as_list (listed w (columns_of b) i l) ≡ ws
   list_is ws e = fetch_is b i h w l.at l.count ws short named e
 
-  pub sized_is : (n : ℕ) (ws : List ℕ) → list_of b i n (entries_of w l) ≡ some ws → (l.count ≡ n) × (as_list (listed w (columns_of b) i l) ≡ ws)
+  pub sized_is : (n : ℕ) (ws : List ℕ) → list_of b i n (entries_of w l) ≡ Some ws → (l.count ≡ n) × (as_list (listed w (columns_of b) i l) ≡ ws)
   sized_is n ws e =
       let p = only_some (eqb (length (entries_of w l)) n) (values_of b i (entries_of w l)) e in
       (sym (length_tab (λ k. entry_at w (l.at + 2 * k)) l.count) ∙ eqb→eq (length (entries_of w l)) n p.0, list_is ws p.1)
 
   -- the words of a key that has n
-  pub key_is : (n : ℕ) (ws : List ℕ) → list_of b i n (entries_of w l) ≡ some ws → front (listed w (columns_of b) i l).vals n ≡ ws
+  pub key_is : (n : ℕ) (ws : List ℕ) → list_of b i n (entries_of w l) ≡ Some ws → front (listed w (columns_of b) i l).vals n ≡ ws
   unfolding fetched
   key_is n ws e =
       let p = sized_is n ws e in
@@ -123,23 +122,23 @@ module _ (w : List ℕ) (room : ℕ → Bool) (k j : ℕ) where
     taken o = found o (λ r. take_column (here k j i) col r s₁) (λ _. miss s₁)
 
     -- a row has the column, or the machine is stuck
-    taken_does : (o : Option (List ℕ)) → Does (effect e (get_elem? (found o (λ r. r) (λ _. [])) col)) i s (taken o)
+    taken_does : (o : Option (List ℕ)) → Does (effect e (slice_get (found o (λ r. r) (λ _. [])) col)) i s (taken o)
     unfolding take_column
-    taken_does (some r) =
-        need_ind (Does (effect e (get_elem? r col)) i s) (get_elem? r col) s₁ (λ x. give i x (note (took (here k j i) r) s₁)) (inl refl)
+    taken_does (Some r) =
+        need_ind (Does (effect e (slice_get r col)) i s) (slice_get r col) s₁ (λ x. give i x (note (took (here k j i) r) s₁)) (inl refl)
         (λ x q. subst (λ (o : Option ℕ). Does (effect e o) i s (give i x (note (took (here k j i) r) s₁))) (sym q)
         (after_note (reads (here k j i) ks) (gives x) i s (give i x (note (took (here k j i) r) s₁))
         (after_note (took (here k j i) r) (gives x) i s₁ (give i x (note (took (here k j i) r) s₁)) (give_does i x (note (took (here k j i) r) s₁)))))
-    taken_does none = after_note (reads (here k j i) ks) e i s (miss s₁) d
+    taken_does None = after_note (reads (here k j i) ks) e i s (miss s₁) d
 
   module _ (t : TableId) (l : t.0 < table_count w) (key : Entries) (col : ColumnId) (short : key.count ≤ 16) (named : All Named (entries_of w key)) where
     -- a column of the row with the key that was read
-    asked_row_lem : (b : Bindings) (i : ℕ) → i < 256 → (ks : List ℕ) → list_of b i (table_of E t.0).keys (entries_of w key) ≡ some ks
-        → asked w (columns_of b) (Lookup (sought_in w t) key col) i ≡ get_elem? (found (find (table_of E t.0).keys (table_of E t.0).rows ks) (λ r. r) (λ _. [])) col.0
+    asked_row_lem : (b : Bindings) (i : ℕ) → i < 256 → (ks : List ℕ) → list_of b i (table_of E t.0).keys (entries_of w key) ≡ Some ks
+        → asked w (columns_of b) (Lookup (sought_in w t) key col) i ≡ slice_get (found (find (table_of E t.0).keys (table_of E t.0).rows ks) (λ r. r) (λ _. [])) col.0
     unfolding asked
     asked_row_lem b i h ks e =
         let q = rw (table_keys w t.0 l) at e in
-        ap (λ (r : List ℕ). get_elem? r col.0) (row_committed home_of w t l (listed w (columns_of b) i key).vals [] ∙ ap (λ (k : List ℕ). found (find (table_of E t.0).keys (table_of E t.0).rows k) (λ r. r) (λ _. [])) (key_is w b i h key short named (keys_of w t.0) ks q))
+        ap (λ (r : List ℕ). slice_get r col.0) (row_committed home_of w t l (listed w (columns_of b) i key).vals [] ∙ ap (λ (k : List ℕ). found (find (table_of E t.0).keys (table_of E t.0).rows k) (λ r. r) (λ _. [])) (key_is w b i h key short named (keys_of w t.0) ks q))
 
     pub lookup_does : (b : Bindings) → Answers b (asked w (columns_of b) (Lookup (sought_in w t) key col)) (λ i miss. lookup E (here k j i) t.0 (entries_of w key) col.0 miss)
     unfolding lookup
@@ -153,8 +152,8 @@ module _ (w : List ℕ) (room : ℕ → Bool) (k j : ℕ) where
 
   called_does : (o : Option ℕ) (i : ℕ) (s : State) (ws : List ℕ) (miss : State → State) (e : Effect) → Does e i (note (reads (here k j i) ws) s) (miss (note (reads (here k j i) ws) s))
       → Does (effect e o) i s (found o (λ x. give i x (note (reads (here k j i) ws) s)) (λ _. miss (note (reads (here k j i) ws) s)))
-  called_does none i s ws miss e d = after_note (reads (here k j i) ws) e i s (miss (note (reads (here k j i) ws) s)) d
-  called_does (some x) i s ws miss e d = after_note (reads (here k j i) ws) (gives x) i s (give i x (note (reads (here k j i) ws) s)) (give_does i x (note (reads (here k j i) ws) s))
+  called_does None i s ws miss e d = after_note (reads (here k j i) ws) e i s (miss (note (reads (here k j i) ws) s)) d
+  called_does (Some x) i s ws miss e d = after_note (reads (here k j i) ws) (gives x) i s (give i x (note (reads (here k j i) ws) s)) (give_does i x (note (reads (here k j i) ws) s))
 
   module _ (c : ℕ) (held : Bindings → Bindings) (holding : Holding held) (func : ExternalFunctionId) (args : Entries) (short : args.count ≤ 16) (named : All Named (entries_of w args)) where
     pub invoke_does : (b : Bindings) → Answers b (asked w (columns_of b) (External func args)) (λ i miss. invoke E (here k j i) c held func.0 (entries_of w args) miss)
@@ -165,7 +164,7 @@ module _ (w : List ℕ) (room : ℕ → Bool) (k j : ℕ) where
         (λ ws q. subst (λ (xs : List ℕ). Does (effect e (apply func.0 xs)) i s (found (apply func.0 ws) (λ x. give i x (note (reads (here k j i) ws) s)) (λ _. miss (note (reads (here k j i) ws) s)))) (sym (read ws q))
         (called_does (apply func.0 ws) i s ws miss e (d (note (reads (here k j i) ws) s) same))))
       where
-        read : (ws : List ℕ) → list_of (held s.bindings) i (E.arity func.0) (entries_of w args) ≡ some ws → as_list (listed w (columns_of s.bindings) i args) ≡ ws
+        read : (ws : List ℕ) → list_of (held s.bindings) i (E.arity func.0) (entries_of w args) ≡ Some ws → as_list (listed w (columns_of s.bindings) i args) ≡ ws
         read ws q = list_is w s.bindings i h args short named ws (holding s.bindings i (entries_of w args) ws (only_some (eqb (length (entries_of w args)) (E.arity func.0)) (values_of (held s.bindings) i (entries_of w args)) q).1)
 
   -- ## What an entry stands for

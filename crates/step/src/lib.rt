@@ -29,6 +29,7 @@ fn lane_count(v: u32, lanes: usize) -> usize
 }
 
 // The batch of entry i: its own columns, all lanes live, and then its rule.
+#[tactic(auto, unfolding(crate::specs::Steps::ran_batch))]
 pub fn run_batch(
     words: &[u32],
     chains: &[u32],
@@ -76,6 +77,7 @@ fn key_asked(words: &[u32], i: usize) -> Args
 }
 
 // The prediction of entry i. Its write values are constants and counters, so what the bindings hold does not matter.
+#[tactic(auto, unfolding(crate::specs::Steps::asked_row))]
 pub fn run_prediction(
     words: &[u32],
     chains: &[u32],
@@ -106,6 +108,7 @@ pub fn run_prediction(
 }
 
 // The row that it answers, where it stands by now.
+#[tactic(auto, unfolding(crate::specs::Steps::row_answered))]
 pub fn row_answered<'a>(
     words: &'a [u32],
     log: &'a [u32],

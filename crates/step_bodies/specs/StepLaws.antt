@@ -1,9 +1,8 @@
 -- The words of a step's body against the model's, and how many there are.
 use Prim.Native.Nat.{ℕ, zero, suc, ◌+◌, ◌*◌, ◌<◌, ◌≤◌}
-use Rattle.std.specs.Prelude.{◌≡◌, Bool, true, false, List, [], ◌∷◌, map}
+use Rattle.std.specs.Prelude.{◌≡◌, Bool, true, false, List, [], ◌∷◌, map, Option, None, Some}
 use Rattle.std.proofs.Math.Path.{refl}
 use Rattle.std.proofs.Common.{sym, ap, ◌∙◌, append-nil, suc-mul, mul-le-mul_right, le-leb, ext_get_or}
-use Rattle.std.proofs.Math.Option.{Option, none, some}
 use native.Mathlib.Omega.{arith}
 use Rattle.std.proofs.lemmas.Bool.{lt-leb}
 use Rattle.std.proofs.Math.ListN.{length, get_or, length-append, get_or-map}
@@ -65,7 +64,7 @@ count_most live e = omega (arith, how_many_le (λ i. get_or live i false) (lengt
 
 module _ (b : Bindings) (live : List Bool) (known : List Bool) (few : length live ≤ 256)
     (bound : (v : ℕ) → v < 32 → get_or known v false ≡ found (b v) (λ _. true) (λ _. false))
-    (sized : (v : ℕ) (c : List ℕ) → v < 32 → b v ≡ some c → length c ≡ length live) where
+    (sized : (v : ℕ) (c : List ℕ) → v < 32 → b v ≡ Some c → length c ≡ length live) where
   abbrev words : ℕ → List ℕ
   words v = column_words (columns_of b) (length live) (get_or known v false) v
 
@@ -74,8 +73,8 @@ module _ (b : Bindings) (live : List Bool) (known : List Bool) (few : length liv
   column_is v h = rw (bound v h) (by (b v) refl)
     where
       by : (o : Option (List ℕ)) → b v ≡ o → column_words (columns_of b) (length live) (found o (λ _. true) (λ _. false)) v ≡ join (found o (λ c. (v ∷ c) ∷ []) (λ _. []))
-      by none e = refl
-      by (some c) e = ap (λ (x : List ℕ). v ∷ x) (ap (part (columns_of b) (256 * v)) (sym (sized v c h e)) ∙ column_at b v c h e (omega (arith, sized v c h e)) ∙ sym (append-nil c))
+      by None e = refl
+      by (Some c) e = ap (λ (x : List ℕ). v ∷ x) (ap (part (columns_of b) (256 * v)) (sym (sized v c h e)) ∙ column_at b v c h e (omega (arith, sized v c h e)) ∙ sym (append-nil c))
 
   columns_are : (n : ℕ) → n ≤ 32 → runs words n ≡ join (join (tab (column b) n))
   unfolding tab
@@ -91,8 +90,8 @@ module _ (b : Bindings) (live : List Bool) (known : List Bool) (few : length liv
       rw (bound n h, join_snoc (tab (column b) n) (column b n), length-append (join (tab (column b) n)) (column b n), ← counted n (omega arith)) (by (b n) (how_many (λ v. get_or known v false) n))
     where
       by : (o : Option (List ℕ)) (k : ℕ) → when (found o (λ _. true) (λ _. false)) suc k ≡ k + length (found o (λ c. (n ∷ c) ∷ []) (λ _. []))
-      by none k = omega arith
-      by (some c) k = omega arith
+      by None k = omega arith
+      by (Some c) k = omega arith
 
   flags_are : tab (λ i. flag (get_or (padded live) i false)) (length live) ≡ map flag live
   flags_are = ext_get_or 0 (tab (λ i. flag (get_or (padded live) i false)) (length live)) (map flag live) (length_tab (λ i. flag (get_or (padded live) i false)) (length live) ∙ sym (length-map live flag))

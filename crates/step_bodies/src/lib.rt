@@ -24,7 +24,7 @@ pub fn write_prediction(row: &[u32], made: bool, at: usize, answer: &mut [u32]) 
     if answer.len() < end {
         return end;
     }
-    answer[at] = put::flag(made);
+    answer[at] = u32::from(made);
     put::write(row, at + 1, answer)
 }
 
@@ -32,15 +32,7 @@ pub fn write_prediction(row: &[u32], made: bool, at: usize, answer: &mut [u32]) 
 fn bound_count(bound: Bound) -> usize
     ensures { result ≡ how_many (λ v. get_or bound.known v false) 32 }
 {
-    let mut n = 0;
-    let mut v = 0;
-    while v < 32 {
-        if bound.known[v] {
-            n += 1;
-        }
-        v += 1;
-    }
-    n
+    bound.known.iter().filter(|known| **known).count()
 }
 
 // A variable and its column, if it is bound; and the word past them.
@@ -81,17 +73,8 @@ fn write_columns(
     ensures end { result ≡ start + length (columns_words bindings.now lanes bound.known) }
 {
     let mut at = start;
-    let mut v = 0;
-    while v < 32 {
-        at = write_column(
-            bindings,
-            bound.known[v],
-            Variable(v as u32),
-            lanes,
-            at,
-            answer,
-        );
-        v += 1;
+    for (v, known) in bound.known.iter().enumerate() {
+        at = write_column(bindings, *known, Variable(v as u32), lanes, at, answer);
     }
     at
 }
@@ -101,10 +84,8 @@ fn write_live(mask: Mask, lanes: usize, at: usize, answer: &mut [u32])
     requires { (lanes ≤ 256) × (at + lanes ≤ length answer.old) }
     ensures { answer.new ≡ sets answer.old at (tab (λ i. model.flag (get_or mask.live i false)) lanes) }
 {
-    let mut i = 0;
-    while i < lanes {
-        answer[at + i] = put::flag(mask.live[i]);
-        i += 1;
+    for (i, live) in mask.live[..lanes].iter().enumerate() {
+        answer[at + i] = u32::from(*live);
     }
 }
 

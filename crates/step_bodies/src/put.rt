@@ -1,16 +1,9 @@
 // Words put into the answer one after the other.
 ghost use Rattle.std.specs.Prelude.{◌≡◌, ◌+◌, ◌≤◌, length};
 ghost use Rattle.std.proofs.lemmas.List.Edits.{sets};
-ghost use Rattle.model.specs.Answer as model;
-
-// 1 for true, 0 for false.
-pub fn flag(b: bool) -> u32
-    ensures { result ≡ model.flag b }
-{
-    if b { 1 } else { 0 }
-}
 
 // All of `src`, from the word `at` on; and the word past it.
+#[tactic(auto, using(crate::specs::Runs::paste_sets))]
 pub fn write(src: &[u32], at: usize, answer: &mut [u32]) -> usize
     requires { at + length src.now ≤ length answer.old }
     ensures words { answer.new ≡ sets answer.old at src.now }

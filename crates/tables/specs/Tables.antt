@@ -1,11 +1,9 @@
 -- Tables as they stand in a book's words: sizes, and the row with a key.
-use Rattle.std.specs.Prelude.{ℕ, ◌+◌, ◌*◌, ◌<◌, ◌≤◌, Bool, List, length, get_or}
+use Rattle.std.specs.Prelude.{ℕ, ◌+◌, ◌*◌, ◌<◌, ◌≤◌, Bool, List, length, get_or, Option, Some, None}
 use Rattle.model.specs.Basics.{eq_list, found, least, tab}
 use Rattle.model.specs.Book.Contents.{first_of}
 use Rattle.model.specs.Book.Decode.{part}
 use Rattle.tables.specs.declared.TableInfo.{TableInfo}
-use Rattle.tables.specs.declared.Found.{Found}
-use Rattle.tables.specs.declared.Found.TheVariants.{At, Nothing}
 
 -- of the table whose body begins at b
 abbrev pub info_at : List ℕ → ℕ → TableInfo
@@ -38,5 +36,5 @@ abbrev pub row_at : TableInfo → ℕ → ℕ
 row_at t i = t.at + i * t.width
 
 -- the first row with the key
-unfoldable pub found_row : List ℕ → TableInfo → List ℕ → Found
-found_row w t key = found (least (λ i. same_words w (row_at t i) key t.keys) t.rows) (λ i. At (row_at t i)) (λ _. Nothing)
+unfoldable pub found_row : List ℕ → TableInfo → List ℕ → Option ℕ
+found_row w t key = found (least (λ i. same_words w (row_at t i) key t.keys) t.rows) (λ i. Some (row_at t i)) (λ _. None)

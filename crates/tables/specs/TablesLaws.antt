@@ -2,9 +2,8 @@
 use Prim.Native.Nat.{ℕ, zero, suc, ◌+◌, ◌*◌, ◌<◌, ◌≤◌}
 use Rattle.std.proofs.Math.Path.{◌≡◌, refl, sym, ap}
 use Rattle.std.proofs.Common.{◌∙◌, add-mul, one-mul, mul-le-mul_right, le-add_right, add-one-le, get_or-take, get_or-drop, take_at, take-take, ext_get_or}
-use Rattle.std.specs.Prelude.{Bool, take, drop, replicate}
+use Rattle.std.specs.Prelude.{Bool, take, drop, replicate, Option, None, Some}
 use Rattle.std.proofs.Math.Bool.{true, false}
-use Rattle.std.proofs.Math.Option.{Option, none, some}
 use mathlib.Core.List.{List, [], ◌∷◌, ◌++◌}
 use native.Mathlib.Omega.{arith}
 use Rattle.std.proofs.Math.ListN.{length, get_or, length-drop}
@@ -20,8 +19,6 @@ use Rattle.model.specs.Laws.Bodies.{length_part}
 use Rattle.model.specs.Laws.Scan.{TableWords}
 use Rattle.words.specs.Filled.{filled, length_filled}
 use Rattle.tables.specs.declared.TableInfo.{TableInfo}
-use Rattle.tables.specs.declared.Found.{Found}
-use Rattle.tables.specs.declared.Found.TheVariants.{At, Nothing}
 use Rattle.tables.specs.Tables.{info_at, Stands, front, same_words, row_at, found_row}
 
 -- ## The words of a key
@@ -80,11 +77,11 @@ module _ (w : List ℕ) (t : TableInfo) (key : List ℕ) where
   abbrev Missed : ℕ → Type 0
   Missed i = same_words w (row_at t i) key t.keys ≡ false
 
-  pub found_at : (i : ℕ) → i < t.rows → ((j : ℕ) → j < i → Missed j) → same_words w (row_at t i) key t.keys ≡ true → At (row_at t i) ≡ found_row w t key
+  pub found_at : (i : ℕ) → i < t.rows → ((j : ℕ) → j < i → Missed j) → same_words w (row_at t i) key t.keys ≡ true → Some (row_at t i) ≡ found_row w t key
   unfolding found_row
   found_at i l before here = rw (some_least (λ i. same_words w (row_at t i) key t.keys) t.rows i (record { below = l; here = here; before = before }))
 
-  pub found_nothing : ((j : ℕ) → j < t.rows → Missed j) → Nothing ≡ found_row w t key
+  pub found_nothing : ((j : ℕ) → j < t.rows → Missed j) → None ≡ found_row w t key
   unfolding found_row
   found_nothing all = rw (none_least (λ i. same_words w (row_at t i) key t.keys) t.rows all)
 
@@ -92,57 +89,57 @@ module _ (w : List ℕ) (t : TableInfo) (key : List ℕ) where
   Has i = same_words w (row_at t i) key t.keys
 
   -- the row that was found is the first with the key
-  pub found_first : (p : ℕ) → found_row w t key ≡ At p → (i : ℕ) × (row_at t i ≡ p) × Least Has t.rows i
+  pub found_first : (p : ℕ) → found_row w t key ≡ Some p → (i : ℕ) × (row_at t i ≡ p) × Least Has t.rows i
   unfolding found_row
   found_first p e = by (least Has t.rows) refl e
     where
-      by : (o : Option ℕ) → least Has t.rows ≡ o → found o (λ i. At (row_at t i)) (λ _. Nothing) ≡ At p → (i : ℕ) × (row_at t i ≡ p) × Least Has t.rows i
-      by none q g = let z : ◌≡◌ {A = ℕ} 0 1 = cc in absurd (omega arith)
-      by (some i) q g = let r : row_at t i ≡ p = cc in (i, r, least_some Has t.rows i q)
+      by : (o : Option ℕ) → least Has t.rows ≡ o → found o (λ i. Some (row_at t i)) (λ _. None) ≡ Some p → (i : ℕ) × (row_at t i ≡ p) × Least Has t.rows i
+      by None q g = let z : ◌≡◌ {A = ℕ} 0 1 = cc in absurd (omega arith)
+      by (Some i) q g = let r : row_at t i ≡ p = cc in (i, r, least_some Has t.rows i q)
 
-  pub missing_all : found_row w t key ≡ Nothing → (j : ℕ) → j < t.rows → Missed j
+  pub missing_all : found_row w t key ≡ None → (j : ℕ) → j < t.rows → Missed j
   unfolding found_row
   missing_all e = by (least Has t.rows) refl e
     where
-      by : (o : Option ℕ) → least Has t.rows ≡ o → found o (λ i. At (row_at t i)) (λ _. Nothing) ≡ Nothing → (j : ℕ) → j < t.rows → Missed j
-      by none q g = least_none Has t.rows q
-      by (some i) q g = let z : ◌≡◌ {A = ℕ} 0 1 = cc in absurd (omega arith)
+      by : (o : Option ℕ) → least Has t.rows ≡ o → found o (λ i. Some (row_at t i)) (λ _. None) ≡ None → (j : ℕ) → j < t.rows → Missed j
+      by None q g = least_none Has t.rows q
+      by (Some i) q g = let z : ◌≡◌ {A = ℕ} 0 1 = cc in absurd (omega arith)
 
   -- it stands in the words
-  pub found_within : (p : ℕ) → found_row w t key ≡ At p → p + t.width ≤ t.at + t.rows * t.width
+  pub found_within : (p : ℕ) → found_row w t key ≡ Some p → p + t.width ≤ t.at + t.rows * t.width
   found_within p e =
       let f = found_first p e in
       omega (arith, f.1, row_within f.0 t.rows t.width f.2.below)
 
 -- ## The model's row
 
-abbrev pub row_found : List ℕ → ℕ → Found → Option (List ℕ)
-row_found w n (At p) = some (part w p n)
-row_found w n Nothing = none
+abbrev pub row_found : List ℕ → ℕ → Option ℕ → Option (List ℕ)
+row_found w n (Some p) = Some (part w p n)
+row_found w n None = None
 
-find_last : (k : ℕ) (rows : List (List ℕ)) (r key : List ℕ) → find k (rows ++ (r ∷ [])) key ≡ found (find k rows key) some (λ _. only (eq_list (take k r) key) (some r))
+find_last : (k : ℕ) (rows : List (List ℕ)) (r key : List ℕ) → find k (rows ++ (r ∷ [])) key ≡ found (find k rows key) Some (λ _. only (eq_list (take k r) key) (Some r))
 find_last k [] r key = by (eq_list (take k r) key)
   where
-    by : (b : Bool) → found (only b (some r)) some (λ _. none) ≡ only b (some r)
+    by : (b : Bool) → found (only b (Some r)) Some (λ _. None) ≡ only b (Some r)
     by true = refl
     by false = refl
 find_last k (x ∷ rows) r key = by (eq_list (take k x) key) (find_last k rows r key)
   where
-    by : (b : Bool) → find k (rows ++ (r ∷ [])) key ≡ found (find k rows key) some (λ _. only (eq_list (take k r) key) (some r)) → found (only b (some x)) some (λ _. find k (rows ++ (r ∷ [])) key) ≡ found (found (only b (some x)) some (λ _. find k rows key)) some (λ _. only (eq_list (take k r) key) (some r))
+    by : (b : Bool) → find k (rows ++ (r ∷ [])) key ≡ found (find k rows key) Some (λ _. only (eq_list (take k r) key) (Some r)) → found (only b (Some x)) Some (λ _. find k (rows ++ (r ∷ [])) key) ≡ found (found (only b (Some x)) Some (λ _. find k rows key)) Some (λ _. only (eq_list (take k r) key) (Some r))
     by true e = refl
     by false e = e
 
 -- rows by an index: the least that has the key
 module _ (k : ℕ) (f : ℕ → List ℕ) (key : List ℕ) (q : ℕ → Bool) (agree : (i : ℕ) → eq_list (take k (f i)) key ≡ q i) where
-  find_tab : (n : ℕ) → find k (tab f n) key ≡ found (least q n) (λ i. some (f i)) (λ _. none)
+  find_tab : (n : ℕ) → find k (tab f n) key ≡ found (least q n) (λ i. Some (f i)) (λ _. None)
   unfolding tab
   find_tab zero = refl
   find_tab (suc n) = find_last k (tab f n) (f n) key ∙ rw (find_tab n, agree n) (by (least q n) (q n))
     where
-      by : (o : Option ℕ) (b : Bool) → found (found o (λ i. some (f i)) (λ _. none)) some (λ _. only b (some (f n))) ≡ found (found o some (λ _. only b (some n))) (λ i. some (f i)) (λ _. none)
-      by (some i) b = refl
-      by none true = refl
-      by none false = refl
+      by : (o : Option ℕ) (b : Bool) → found (found o (λ i. Some (f i)) (λ _. None)) Some (λ _. only b (Some (f n))) ≡ found (found o Some (λ _. only b (Some n))) (λ i. Some (f i)) (λ _. None)
+      by (Some i) b = refl
+      by None true = refl
+      by None false = refl
 
 -- the table whose body begins at b
 module _ (w : List ℕ) (b : ℕ) where
@@ -177,12 +174,12 @@ module _ (w : List ℕ) (b : ℕ) (key : List ℕ) where
       find_tab Info.keys (λ i. part w (row_place w b i) Info.width) (front key Info.keys) (λ i. same_words w (row_at Info i) key Info.keys) (λ i. ap (λ (x : List ℕ). eq_list x (front key Info.keys)) (take-take Info.keys Info.width (drop (row_place w b i) w) (le-add_right _ _))) Info.rows
       ∙ by (least (λ i. same_words w (row_at Info i) key Info.keys) Info.rows)
     where
-      by : (o : Option ℕ) → found o (λ i. some (part w (row_at Info i) Info.width)) (λ _. none) ≡ row_found w Info.width (found o (λ i. At (row_at Info i)) (λ _. Nothing))
-      by none = refl
-      by (some i) = refl
+      by : (o : Option ℕ) → found o (λ i. Some (part w (row_at Info i) Info.width)) (λ _. None) ≡ row_found w Info.width (found o (λ i. Some (row_at Info i)) (λ _. None))
+      by None = refl
+      by (Some i) = refl
 
-  pub row_found_lem : (p : ℕ) → found_row w Info key ≡ At p → find (read_table w b).keys (read_table w b).rows (front key (read_table w b).keys) ≡ some (part w p Info.width)
+  pub row_found_lem : (p : ℕ) → found_row w Info key ≡ Some p → find (read_table w b).keys (read_table w b).rows (front key (read_table w b).keys) ≡ Some (part w p Info.width)
   row_found_lem p e = find_model ∙ ap (row_found w Info.width) e
 
-  pub row_missing : found_row w Info key ≡ Nothing → find (read_table w b).keys (read_table w b).rows (front key (read_table w b).keys) ≡ none
+  pub row_missing : found_row w Info key ≡ None → find (read_table w b).keys (read_table w b).rows (front key (read_table w b).keys) ≡ None
   row_missing e = find_model ∙ ap (row_found w Info.width) e

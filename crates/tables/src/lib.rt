@@ -16,27 +16,17 @@ pub struct TableInfo {
     pub at: usize,
 }
 
-// The word at which the row with a key begins.
-#[derive(Clone, Copy)]
-pub enum Found {
-    At(usize),
-    Nothing,
-}
-
 // Read from the book's words, where the table's body begins; where no table stands, the numbers mean nothing.
 pub fn info_at(words: &[u32], body: usize) -> TableInfo
     requires { body + 4 < 2 ^ 64 }
     ensures { result ≡ info_at words.now body }
 {
     let keys = words::size_at(words, body);
-    let vals = words::size_at(words, body + 1);
-    let merge = words::word(words, body + 2);
-    let rows = words::size_at(words, body + 3);
     TableInfo {
         keys,
-        width: keys + vals,
-        merge,
-        rows,
+        width: keys + words::size_at(words, body + 1),
+        merge: words::word(words, body + 2),
+        rows: words::size_at(words, body + 3),
         at: body + 4,
     }
 }
@@ -67,12 +57,8 @@ pub fn key_of(row: &[u32], k: usize) -> [u32; 16]
     requires { (k ≤ length row.now) × (k ≤ 16) }
     ensures { result ≡ filled (λ i. get_or row.now i 0) k (replicate 16 0) }
 {
-    let mut key = [0u32; 16];
-    let mut i = 0;
-    while i < k {
-        key[i] = row[i];
-        i += 1;
-    }
+    let mut key = [0; 16];
+    key[..k].copy_from_slice(&row[..k]);
     key
 }
 
@@ -81,32 +67,20 @@ pub fn same_words(rows: &[u32], at: usize, key: &[u32; 16], k: usize) -> bool
     requires { (at + k ≤ length rows.now) × (k ≤ 16) }
     ensures { result ≡ same_words rows.now at key.now k }
 {
-    let mut i = 0;
-    while i < k {
-        if rows[at + i] != key[i] {
-            return false;
-        }
-        i += 1;
-    }
-    true
+    (0..k).all(|i| rows[at + i] == key[i])
 }
 
 // The committed row with the key.
-pub fn find(words: &[u32], info: TableInfo, key: &[u32; 16]) -> Found
+#[tactic(auto, using(crate::specs::TablesLaws::found_nothing))]
+pub fn find(words: &[u32], info: TableInfo, key: &[u32; 16]) -> Option<usize>
     requires { Stands words.now info }
     ensures { result ≡ found_row words.now info key.now }
 {
-    let k = info.keys;
-    let width = info.width;
-    let rows = info.rows;
-    let mut at = info.at;
-    let mut i = 0;
-    while i < rows {
-        if same_words(words, at, key, k) {
-            return Found::At(at);
+    for i in 0..info.rows {
+        let at = info.at + i * info.width;
+        if same_words(words, at, key, info.keys) {
+            return Some(at);
         }
-        at += width;
-        i += 1;
     }
-    Found::Nothing
+    None
 }

@@ -5,21 +5,21 @@ ghost use Rattle.std.specs.Prelude.{◌≡◌, min, length, replicate};
 ghost use Rattle.engine.specs.Engine.{lent_of};
 ghost use Rattle.wirumbane.specs.Returned.{packed, Returned};
 
-use conclude::Outcome;
+use refusal::Refusal;
 
 // A number as the low half of a result. No answer and no place comes near the limit.
 fn low_half(n: usize) -> u64
     ensures { result ≡ min n 4294967295 }
 {
-    if n < 4294967295 { n as u64 } else { 4294967295 }
+    n.min(4294967295) as u64
 }
 
-fn pack(outcome: Outcome) -> u64
+fn pack(outcome: Result<usize, Refusal>) -> u64
     ensures { result ≡ packed outcome }
 {
     match outcome {
-        Outcome::Accepted(n) => low_half(n),
-        Outcome::Refused(number, place) => (number as u64) * 4294967296 + low_half(place),
+        Ok(n) => low_half(n),
+        Err(refusal) => u64::from(refusal.number()) * 4294967296 + low_half(refusal.place()),
     }
 }
 

@@ -1,18 +1,12 @@
 // Words of a book of bytes, and whole buffers of words: read, cleared, copied, compared.
 #![tactic(auto)]
 
-ghost use Rattle.std.specs.Prelude.{◌≡◌, ◌↔◌, true, ◌++◌, ℕ, ◌+◌, ◌*◌, ◌^◌, ◌≤◌, ◌<◌, length, get_or, replicate};
+ghost use Rattle.std.specs.Prelude.{◌≡◌, ◌↔◌, true, ℕ, ◌+◌, ◌*◌, ◌^◌, ◌≤◌, ◌<◌, length, get_or, replicate};
 ghost use Rattle.std.proofs.Math.Seq.{paste};
 ghost use Rattle.model.specs.Basics.{tab};
 ghost use Rattle.model.specs.Book.Words.{words_of};
 ghost use Rattle.model.specs.Book.Decode.{part};
 ghost use Rattle.model.specs.Laws.Words.{word_at};
-
-fn wide(x: u8) -> u32
-    ensures { (result ≡ x) × (result < 256) }
-{
-    x as u32
-}
 
 // The word whose first byte stands at 4 * i, low byte first.
 pub fn word_at(book: &[u8], i: usize) -> u32
@@ -20,34 +14,29 @@ pub fn word_at(book: &[u8], i: usize) -> u32
     ensures { result ≡ word_at book.now i }
 {
     let at = 4 * i;
-    let a = wide(book[at]);
-    let b = wide(book[at + 1]);
-    let c = wide(book[at + 2]);
-    let d = wide(book[at + 3]);
-    a + 256 * b + 65536 * c + 16777216 * d
+    u32::from_le_bytes([book[at], book[at + 1], book[at + 2], book[at + 3]])
 }
 
 // Word i of the bytes as a size, or 0 past their last whole word.
+#[tactic(auto, using(model::specs::Laws::Words::length_words, model::specs::Laws::Words::get_or_words, std::proofs::lemmas::List::get_or_past))]
 pub fn size_in(bytes: &[u8], i: usize) -> usize
     ensures { (result ≡ get_or (words_of bytes.now) i 0) × (result < 4294967296) }
 {
     if i < bytes.len() / 4 {
-        size(word_at(bytes, i))
+        word_at(bytes, i) as usize
     } else {
         0
     }
 }
 
 // All of `words` from the front of `book`.
+#[tactic(auto, using(crate::specs::Filled::filled_turn, crate::specs::Filled::filled_none, crate::specs::Filled::filled_all))]
 pub fn load(book: &[u8], words: &mut [u32])
     requires { 4 * length words.old ≤ length book.now }
     ensures { words.new ≡ tab (word_at book.now) (length words.old) }
 {
-    let n = words.len();
-    let mut i = 0;
-    while i < n {
-        words[i] = word_at(book, i);
-        i += 1;
+    for (i, word) in words.iter_mut().enumerate() {
+        *word = word_at(book, i);
     }
 }
 
@@ -55,7 +44,7 @@ pub fn load(book: &[u8], words: &mut [u32])
 pub fn word(words: &[u32], p: usize) -> u32
     ensures { result ≡ get_or words.now p 0 }
 {
-    if p < words.len() { words[p] } else { 0 }
+    words.get(p).copied().unwrap_or(0)
 }
 
 // A word as a size or a place.
@@ -69,32 +58,21 @@ pub fn size(x: u32) -> usize
 pub fn size_at(words: &[u32], p: usize) -> usize
     ensures { (result ≡ get_or words.now p 0) × (result < 4294967296) }
 {
-    size(word(words, p))
+    word(words, p) as usize
 }
 
 pub fn clear(buf: &mut [u32])
     ensures { buf.new ≡ replicate (length buf.old) 0 }
 {
-    let n = buf.len();
-    let mut i = 0;
-    while i < n {
-        buf[i] = 0;
-        i += 1;
-    }
+    buf.fill(0);
 }
 
 // The words from `at` on, n of them or as many as are there.
 pub fn part<'a>(words: &'a [u32], at: usize, n: usize) -> &'a [u32]
     ensures { result.now ≡ part words.now at n }
 {
-    let len = words.len();
-    if len <= at {
-        return &words[..0];
-    }
-    if len - at <= n {
-        return &words[at..];
-    }
-    &words[at..at + n]
+    let rest = &words[at.min(words.len())..];
+    &rest[..n.min(rest.len())]
 }
 
 // All of `src`, into `dst` from the word `at` on.
@@ -102,26 +80,14 @@ pub fn copy(src: &[u32], dst: &mut [u32], at: usize)
     requires { at + length src.now ≤ length dst.old }
     ensures { dst.new ≡ paste dst.old at src.now (length src.now) }
 {
-    let n = src.len();
-    let mut i = 0;
-    while i < n {
-        dst[at + i] = src[i];
-        i += 1;
-    }
+    dst[at..at + src.len()].copy_from_slice(src);
 }
 
 // Whether every word is 0.
 pub fn all_zero(words: &[u32]) -> bool
     ensures { (result ≡ true) ↔ ((i : ℕ) → i < length words.now → get_or words.now i 0 ≡ 0) }
 {
-    let mut i = 0;
-    while i < words.len() {
-        if words[i] != 0 {
-            return false;
-        }
-        i += 1;
-    }
-    true
+    words.iter().all(|x| *x == 0)
 }
 
 // Whether the words of the bytes, from word `at` on, are these.
@@ -130,12 +96,8 @@ pub fn same_words(bytes: &[u8], at: usize, words: &[u32]) -> bool
     ensures { (result ≡ true) ↔ ((i : ℕ) → i < length words.now
         → get_or (words_of bytes.now) (at + i) 0 ≡ get_or words.now i 0) }
 {
-    let mut i = 0;
-    while i < words.len() {
-        if size_in(bytes, at + i) != size(words[i]) {
-            return false;
-        }
-        i += 1;
-    }
-    true
+    words
+        .iter()
+        .enumerate()
+        .all(|(i, x)| size_in(bytes, at + i) == *x as usize)
 }

@@ -1,12 +1,8 @@
-use Prim.Native.Nat.{◌+◌, ◌-◌, ◌*◌, ◌≤◌}
+use Prim.Native.Nat.{◌+◌, ◌*◌}
 use mathlib.Core.Path.{◌≡◌}
-use lib.ListN.{length}
 use Rattle.words.specs.Filled.{filled}
 use Rattle.bindings.specs.Columns.{value_at}
 use Rattle.bindings.proofs.fetch_into.Given as goal
 
 abbrev pub invariant-loop-i : goal.invariant-loop-i
-invariant-loop-i l = (l.i ≤ l.count) × (length l.out ≡ length l.initial.out) × (l.out ≡ filled (λ k. value_at l.words l.bindings l.lane.0 (l.at + 2 * k)) l.i l.initial.out)
-
-abbrev pub decreases-loop-i : goal.decreases-loop-i
-decreases-loop-i l = l.count - l.i
+invariant-loop-i l = l.out ≡ filled (λ k. value_at l.words l.bindings l.lane.0 (l.at + 2 * k)) l.i l.initial.out

@@ -1,17 +1,12 @@
-use Prim.Native.Nat.{◌≤◌, ◌-◌}
+use Prim.Native.Nat.{◌≤◌}
 use mathlib.Core.Path.{◌≡◌}
 use mathlib.Core.Bool.{false}
 use lib.ListN.{length, replicate}
 use Rattle.model.specs.Basics.{iter}
-use Rattle.commit.specs.Walk.{gone_after}
 use Rattle.commit.specs.Commit.{Left, table_committed}
 use Rattle.commit.proofs.commit_all.Given as goal
 
 abbrev pub invariant-loop-t : goal.invariant-loop-t
-invariant-loop-t l =
-    (l.t ≤ l.tables) × (length l.gone ≡ length l.initial.gone) × (length l.rows ≡ length l.initial.rows) × (l.done.used ≤ length l.initial.rows)
+invariant-loop-t g l =
+    (l.done.used ≤ length l.initial.rows)
     × (◌≡◌ {A = Left} (record { words = l.rows; result = l.done }) (iter (table_committed l.words l.log) l.t (record { words = l.initial.rows; result = record { counts = replicate 16 0; used = 0; over = false } })))
-    × (l.gone ≡ iter (gone_after l.words l.log) l.t l.initial.gone)
-
-abbrev pub decreases-loop-t : goal.decreases-loop-t
-decreases-loop-t l = l.tables - l.t

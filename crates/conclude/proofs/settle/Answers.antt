@@ -45,4 +45,4 @@ returns c =
     let commit = c.commit-done in
     let if1 = c.if-done in
     let assemble = c.assemble in
-    settled_answer a.words.now a.p a.log.now a.tables.now a.answer.now _ (table-count.ensures ∙ pre.1.tables) (record { words = commit.new.rows; result = commit.result }) commit.ensures if1.false assemble.result c.by_length.result assemble.new.answer assemble.ensures.length c.by_length.ensures assemble.ensures.words
+    settled_answer a.words.now a.p a.log.now a.tables.now a.answer.now _ (table-count.ensures ∙ pre.1.tables) (record { words = commit.new.rows; result = commit.result }) commit.ensures if1.false assemble.result assemble.new.answer assemble.ensures.length assemble.ensures.words

@@ -1,4 +1,4 @@
-use Prim.Native.Nat.{ℕ, ◌≤◌, ◌<◌, ◌-◌}
+use Prim.Native.Nat.{ℕ, ◌<◌}
 use mathlib.Core.Path.{◌≡◌}
 use mathlib.Core.Bool.{true}
 use lib.ListN.{length}
@@ -7,7 +7,4 @@ use Rattle.contents.specs.ContentsLaws.{Counts}
 use Rattle.contents.proofs.check.Given as goal
 
 abbrev pub invariant-loop-i : goal.invariant-loop-i
-invariant-loop-i l = (l.i ≤ l.n) × (l.last ≡ last_group l.words l.i) × (l.end ≡ begins l.words l.i) × Counts l.words l.counts l.i × ((j : ℕ) → j < l.i → entry_fits l.words j ≡ true) × (length l.counts ≡ 5)
-
-abbrev pub decreases-loop-i : goal.decreases-loop-i
-decreases-loop-i l = l.n - l.i
+invariant-loop-i l = (l.last ≡ last_group l.words l.i) × (l.end ≡ begins l.words l.i) × Counts l.words l.counts l.i × ((j : ℕ) → j < l.i → entry_fits l.words j ≡ true) × (length l.counts ≡ 5)

@@ -1,46 +1,55 @@
--- After c turns the first c words are counters, the rest 0 (`filled_turn`); at the end c is their number, and that is the padded list (`counters_filled`).
-use mathlib.Core.Path.{◌≡◌, ap, ◌∙◌}
-use Prim.Native.Nat.{ℕ, ◌+◌}
-use lib.ListN.{get_or, replicate, length-set, length-replicate}
+-- After c turns the first c of the n words are counters (`filled_turn`); at the end all n are (`filled_all`), and with zeros past them that is the padded list (`counters_filled`).
+use mathlib.Core.Path.{◌≡◌, sym, ap, ◌∙◌}
+use mathlib.Core.List.{List, ◌++◌}
+use Prim.Native.Nat.{ℕ, ◌+◌, ◌≤◌}
+use lib.ListN.{length, get_or, take, drop, replicate}
+use lib.Seq.{length-take-le}
 use native.Mathlib.Omega.{arith}
-use Rattle.words.specs.Filled.{filled_turn}
+use Rattle.words.specs.Filled.{filled, filled_none, filled_turn, filled_all}
+use Rattle.model.specs.Basics.{tab}
+use Rattle.model.specs.Book.Contents.{first_of}
 use Rattle.model.specs.Laws.Book.{few_tables, few_counters}
 use Rattle.engine.specs.CounterLaws.{counters_filled}
-use Rattle.model.specs.Book.Contents.{first_of}
-use Rattle.model.specs.Basics.{tab}
-use borrow.Author.Rules.{rules}
 use Rattle.engine.proofs.counters_of.Goals as goal
+use Rattle.engine.proofs.counters_of.Goals.{After-counter_count-n}
+
+-- there are at most 16 tables and 16 counters
+few : (c : After-counter_count-n) → c.counter_count-n.result ≤ 16
+few c =
+    let pre = c.requires in
+    omega (arith, c.counter_count-n.ensures, pre.1.counters, few_counters c.args.words.now pre.0)
+
+many : (c : After-counter_count-n) → length (take {A = ℕ} c.counter_count-n.result (replicate 16 0)) ≡ c.counter_count-n.result
+many c = length-take-le c.counter_count-n.result (replicate 16 0) (few c)
+
+pub slice_bounds-next-end : goal.slice_bounds-next-end
+slice_bounds-next-end c = few (goal.at.slice_bounds-next-end c).After-counter_count-n
+
+pub slice_bounds-word-items-end : goal.slice_bounds-word-items-end
+slice_bounds-word-items-end c = sym (many (goal.at.slice_bounds-word-items-end c).After-counter_count-n)
 
 pub loop-c-init : goal.loop-c-init
-unfolding tab
-loop-c-init c = search rules
+loop-c-init c = filled_none _ _
 
 pub first_of-requires : goal.first_of-requires
 first_of-requires c =
     let pre = c.requires in
-    let a = c.args in
-    omega (arith, c.table_count-tables.ensures, c.counter_count-n.ensures, pre.1.tables, pre.1.counters, few_tables a.words.now pre.0, few_counters a.words.now pre.0)
-
-pub bounds-next-c : goal.bounds-next-c
-bounds-next-c c =
-    let pre = c.requires in
-    let a = c.args in
-    let counter-count = c.counter_count-n in
-    omega (arith, counter-count.ensures, pre.1.counters, few_counters a.words.now pre.0)
+    omega (arith, few (goal.at.first_of-requires c).After-counter_count-n, many (goal.at.first_of-requires c).After-counter_count-n, c.table_count-tables.ensures, pre.1.tables, few_tables c.args.words.now pre.0)
 
 pub loop-c-preserved : goal.loop-c-preserved
 loop-c-preserved c =
-    let a = c.args in
-    let pre = c.requires in
-    let table-count = c.table_count-tables in
-    let counter-count = c.counter_count-n in
+    let w = c.args.words.now in
     let l = c.loop-c in
-    (omega arith, length-set l.next l.c c.word.result ∙ l.invariant.1, filled_turn (λ k. get_or a.words.now (first_of a.words.now (table-count.result + k)) 0) l.c (replicate 16 0) l.next c.word.result 0 l.invariant.2 (c.word.ensures ∙ ap (λ (p : ℕ). get_or a.words.now p 0) c.first_of.ensures.0) (omega (arith, counter-count.ensures, pre.1.counters, few_counters a.words.now pre.0, length-replicate {A = ℕ} 16 0)))
+    filled_turn (λ k. get_or w (first_of w (c.table_count-tables.result + k)) 0) l.c (take c.counter_count-n.result (replicate 16 0)) l.word-items c.word.result 0 l.invariant (c.word.ensures ∙ ap (λ (p : ℕ). get_or w p 0) c.first_of.ensures.0) (omega arith)
 
 pub returns : goal.returns
 returns c =
-    let a = c.args in
+    let w = c.args.words.now in
     let pre = c.requires in
-    let table-count = c.table_count-tables in
-    let counter-count = c.counter_count-n in
-    counters_filled a.words.now c.loop-c.next table-count.result counter-count.result (let e : c.loop-c.c ≡ counter-count.result = omega arith in rw (← e) c.loop-c.invariant.2) (table-count.ensures ∙ pre.1.tables) (counter-count.ensures ∙ pre.1.counters)
+    let n = c.counter_count-n.result in
+    let f : ℕ → ℕ = λ k. get_or w (first_of w (c.table_count-tables.result + k)) 0 in
+    let zeros : List ℕ = replicate 16 0 in
+    let all : c.loop-c.word-items ≡ tab f n =
+    let e : c.loop-c.c ≡ length (take n zeros) = omega arith in
+    c.loop-c.invariant ∙ ap (λ (k : ℕ). filled f k (take n zeros)) e ∙ filled_all f (take n zeros) ∙ ap (tab f) (many (goal.at.returns c).After-counter_count-n) in
+    counters_filled w (c.loop-c.word-items ++ drop n zeros) c.table_count-tables.result n (ap (λ (l : List ℕ). l ++ drop n zeros) all) (c.table_count-tables.ensures ∙ pre.1.tables) (c.counter_count-n.ensures ∙ pre.1.counters)

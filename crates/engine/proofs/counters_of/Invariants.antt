@@ -1,12 +1,9 @@
 use mathlib.Core.Path.{◌≡◌}
-use Prim.Native.Nat.{◌+◌, ◌-◌, ◌≤◌}
-use lib.ListN.{length, get_or}
+use Prim.Native.Nat.{◌+◌}
+use lib.ListN.{get_or}
 use Rattle.words.specs.Filled.{filled}
 use Rattle.model.specs.Book.Contents.{first_of}
 use Rattle.engine.proofs.counters_of.Given as goal
 
 abbrev pub invariant-loop-c : goal.invariant-loop-c
-invariant-loop-c l = (l.c ≤ l.n) × (length l.next ≡ 16) × (l.next ≡ filled (λ k. get_or l.words (first_of l.words (l.tables + k)) 0) l.c l.initial.next)
-
-abbrev pub decreases-loop-c : goal.decreases-loop-c
-decreases-loop-c l = l.n - l.c
+invariant-loop-c l = l.word-items ≡ filled (λ k. get_or l.words (first_of l.words (l.tables + k)) 0) l.c l.initial.word-items

@@ -10,20 +10,13 @@ use Rattle.engine.proofs.run_book.Goals as goal
 
 pub of-contents-requires : goal.of-contents-requires
 of-contents-requires c =
-    let a = c.args in
     let pre = c.requires in
-    few_entries a.words.now pre.0.readable
-
-pub start-requires : goal.start-requires
-start-requires c =
-    let pre = c.requires in
-    (pre.0.readable, c.of-contents.ensures)
+    few_entries c.args.words.now pre.0.readable
 
 pub run_steps-p-requires : goal.run_steps-p-requires
 run_steps-p-requires c =
-    let start = c.start in
     let p = c.requires in
-    let s = start.ensures in (
+    let s = c.start.ensures in (
       p.0.readable,
       c.of-contents.ensures,
       ap (λ (p : Progress). p.done) s,
@@ -34,7 +27,6 @@ run_steps-p-requires c =
 
 pub conclude-requires : goal.conclude-requires
 conclude-requires c =
-    let start = c.start in
     let p = c.requires in
     let a = c.args in
     let r = c.run_steps-p in (
@@ -42,14 +34,12 @@ conclude-requires c =
       c.of-contents.ensures,
       r.ensures.fits.1,
       p.5,
-      may_conclude a.words.now p.0 a.bindings.now a.index.now a.log.now a.answer.now p.4 p.2 p.3 p.6 _ start.ensures _ r.ensures.is r.auto.log r.ensures.fits.2 r.ensures.fits.0,
+      may_conclude a.words.now p.0 a.bindings.now a.index.now a.log.now a.answer.now p.4 p.2 p.3 p.6 _ c.start.ensures _ r.ensures.is r.auto.log r.ensures.fits.2 r.ensures.fits.0,
     )
 
 pub returns : goal.returns
 returns c =
-    let start = c.start in
-    let conclude = c.conclude in
     let p = c.requires in
     let a = c.args in
     let r = c.run_steps-p in
-    book_concludes a.words.now p.0 a.bindings.now a.index.now a.log.now a.answer.now p.4 p.2 p.3 p.6 _ start.ensures _ r.ensures.is r.auto.log r.auto.answer a.tables.now p.5 _ conclude.ensures
+    book_concludes a.words.now p.0 a.bindings.now a.index.now a.log.now a.answer.now p.4 p.2 p.3 p.6 _ c.start.ensures _ r.ensures.is r.auto.log r.auto.answer a.tables.now p.5 _ c.conclude.ensures

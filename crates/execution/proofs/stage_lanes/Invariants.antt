@@ -1,7 +1,4 @@
-use Prim.Native.Nat.{◌-◌, ◌≤◌}
-use mathlib.Core.Path.{◌≡◌}
-use mathlib.Core.Bool.{false}
-use lib.ListN.{length, get_or}
+use Rattle.std.proofs.Common.{◌≤◌, ◌≡◌, false, length, get_or}
 use Rattle.model.specs.Basics.{iter}
 use Rattle.lanes.specs.Lanes.{listed}
 use Rattle.execution.specs.Execution.{Logged, staged_lane}
@@ -9,10 +6,5 @@ use Rattle.execution.proofs.stage_lanes.Given as goal
 
 abbrev pub invariant-loop-i : goal.invariant-loop-i
 invariant-loop-i l =
-    (l.i ≤ l.n)
-    × (length l.log ≡ length l.initial.log)
-    × (l.s.used ≤ length l.initial.log)
+    (l.s.used ≤ length l.log)
     × (◌≡◌ {A = Logged} (record { state = l.s; log = l.log }) (iter (λ k. staged_lane l.what.change l.what.table.0 (listed l.words l.bindings k l.what.vals) (get_or l.mask.live k false)) l.i (record { state = l.initial.s; log = l.initial.log })))
-
-abbrev pub decreases-loop-i : goal.decreases-loop-i
-decreases-loop-i l = l.n - l.i

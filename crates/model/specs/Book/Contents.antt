@@ -1,6 +1,5 @@
 -- The contents of a book: refusal 2, and what stands where in a book that it lets pass.
-use Rattle.std.specs.Prelude.{ℕ, zero, suc, ◌+◌, ◌*◌, Bool, ◌&&◌, not, List, [], ◌∷◌, eqb, ltb, leb, length, get_or}
-use Rattle.std.proofs.Math.Option.{Option, some}
+use Rattle.std.specs.Prelude.{ℕ, zero, suc, ◌+◌, ◌*◌, Bool, ◌&&◌, not, List, [], ◌∷◌, eqb, ltb, leb, length, get_or, Option, Some}
 use Rattle.model.specs.Basics.{found, ◌else◌, least, how_many}
 use Rattle.model.specs.Book.Words.{Refusal, unless}
 
@@ -58,7 +57,7 @@ module _ (w : List ℕ) where
   unfoldable pub contents_refusal : Option Refusal
   contents_refusal =
       unless count_fits 2 0 else λ _.
-      found (least (λ i. not (entry_fits i)) count) (λ i. some (record { number = 2; place = i })) λ _.
+      found (least (λ i. not (entry_fits i)) count) (λ i. Some (record { number = 2; place = i })) λ _.
       unless (eqb (begins count) (length w)) 2 0
 
   -- how many tables, counters and rules there are; the rules' first entry, and the steps'

@@ -1,6 +1,5 @@
 -- A book's words: its refusals 3, 6, 4 and 5 by body, what it reads to, and refusal 11.
-use Rattle.std.specs.Prelude.{ℕ, zero, suc, ◌+◌, Bool, true, false, ◌&&◌, ◌||◌, not, List, [], eqb, ltb, length, get_or, take}
-use Rattle.std.proofs.Math.Option.{Option, none, some}
+use Rattle.std.specs.Prelude.{ℕ, zero, suc, ◌+◌, Bool, true, false, ◌&&◌, ◌||◌, not, List, [], eqb, ltb, length, get_or, take, Option, None, Some}
 use Rattle.model.specs.Basics.{found, ◌else◌, first_some, least, tab}
 use Rattle.model.specs.Book.Syntax.{Counter, Table, width, Rule, Step, batch, prediction, table_at, rule_at}
 use Rattle.model.specs.Machine.Values.{find}
@@ -11,19 +10,19 @@ use Rattle.model.specs.Book.Decode.{read_table, read_counter, read_rule, read_st
 
 -- what a walk over body i drew
 abbrev pub drew3 : ℕ → Scan → Option Refusal
-drew3 i bad = some (record { number = 3; place = i })
-drew3 i (good at p q) = none
+drew3 i bad = Some (record { number = 3; place = i })
+drew3 i (good at p q) = None
 
 abbrev pub drew_at : ℕ → ℕ → Option Refusal
-drew_at n zero = none
-drew_at n (suc p) = some (record { number = n; place = suc p })
+drew_at n zero = None
+drew_at n (suc p) = Some (record { number = n; place = suc p })
 
 abbrev pub drew6 : Scan → Option Refusal
-drew6 bad = none
+drew6 bad = None
 drew6 (good at p q) = drew_at 6 p
 
 abbrev pub drew4 : Scan → Option Refusal
-drew4 bad = none
+drew4 bad = None
 drew4 (good at p q) = drew_at 4 q
 
 -- row i has the key of an earlier row
@@ -44,7 +43,7 @@ module _ (w : List ℕ) where
 
   -- 5, at the row
   abbrev pub rows_refusal : ℕ → Option Refusal
-  rows_refusal at = found (repeated (read_table w at)) (λ i. some (record { number = 5; place = row_place w at i })) (λ _. none)
+  rows_refusal at = found (repeated (read_table w at)) (λ i. Some (record { number = 5; place = row_place w at i })) (λ _. None)
 
   abbrev pub walk : ℕ → Scan
   walk i = scan (end_of w i) w sizes (kind_of w i) (first_of w i)
@@ -55,7 +54,7 @@ module _ (w : List ℕ) where
       drew3 i (walk i) else λ _.
       drew6 (walk i) else λ _.
       drew4 (walk i) else λ _.
-      elim (eqb (kind_of w i) 1) [ true ↦ rows_refusal (first_of w i) | false ↦ none ]
+      elim (eqb (kind_of w i) 1) [ true ↦ rows_refusal (first_of w i) | false ↦ None ]
 
   unfoldable pub bodies_refusal : Option Refusal
   bodies_refusal = first_some body_refusal (count w)
@@ -79,4 +78,4 @@ module _ (w : List ℕ) where
 
   -- 11, at the body
   unfoldable pub steps_refusal : Option Refusal
-  steps_refusal = found (least (λ k. not (step_fits tables rules (step k))) (step_count w)) (λ k. some (record { number = 11; place = first_step w + k })) (λ _. none)
+  steps_refusal = found (least (λ k. not (step_fits tables rules (step k))) (step_count w)) (λ k. Some (record { number = 11; place = first_step w + k })) (λ _. None)

@@ -1,6 +1,5 @@
 -- What a book says once it has been read: tables, counters, rules and steps.
-use Rattle.std.specs.Prelude.{ℕ, ◌+◌, ◌<◌, List, [], get_or}
-use Rattle.std.proofs.Math.Option.{Option, none, some}
+use Rattle.std.specs.Prelude.{ℕ, ◌+◌, ◌<◌, List, [], get_or, Option, None, Some}
 
 -- the stale mark; a word other than it
 abbrev pub stale : ℕ
@@ -47,19 +46,19 @@ pub data Instr : Type 0 where
 
 -- the variable that an instruction binds
 unfoldable pub dst_of : Instr → Option ℕ
-dst_of (LookupOrInsertDefault t args vs col dst) = some dst
-dst_of (LookupWithDefault t args col dst e) = some dst
-dst_of (Lookup t args col dst) = some dst
-dst_of (LookupWithFallback t key f args col dst) = some dst
-dst_of (Insert t vals) = none
-dst_of (InsertIfEq t l r vals) = none
-dst_of (Remove t args) = none
-dst_of (External f args dst) = some dst
-dst_of (ExternalWithFallback f1 args1 f2 args2 dst) = some dst
-dst_of (AssertEq l r) = none
-dst_of (AssertNe l r) = none
-dst_of (AssertAnyNe d ops) = none
-dst_of (ReadCounter c dst) = some dst
+dst_of (LookupOrInsertDefault t args vs col dst) = Some dst
+dst_of (LookupWithDefault t args col dst e) = Some dst
+dst_of (Lookup t args col dst) = Some dst
+dst_of (LookupWithFallback t key f args col dst) = Some dst
+dst_of (Insert t vals) = None
+dst_of (InsertIfEq t l r vals) = None
+dst_of (Remove t args) = None
+dst_of (External f args dst) = Some dst
+dst_of (ExternalWithFallback f1 args1 f2 args2 dst) = Some dst
+dst_of (AssertEq l r) = None
+dst_of (AssertNe l r) = None
+dst_of (AssertAnyNe d ops) = None
+dst_of (ReadCounter c dst) = Some dst
 
 -- key count, value count, merge rule; a row is its key and then its values
 pub record Table : Type 0 where

@@ -1,6 +1,5 @@
 -- Refusals, and the words of a book of bytes.
-use Rattle.std.specs.Prelude.{ℕ, ◌+◌, ◌*◌, ◌/◌, ◌%◌, ◌<◌, Bool, ◌&&◌, not, List, [], ◌∷◌, eqb, ltb, leb, length}
-use Rattle.std.proofs.Math.Option.{Option, some}
+use Rattle.std.specs.Prelude.{ℕ, ◌+◌, ◌*◌, ◌/◌, ◌%◌, ◌<◌, Bool, ◌&&◌, not, List, [], ◌∷◌, eqb, ltb, leb, length, Option, Some}
 use Rattle.model.specs.Basics.{only}
 
 -- a number of the table of refusals, and a place
@@ -10,7 +9,7 @@ pub record Refusal : Type 0 where
 
 -- refused unless the test passes
 abbrev pub unless : Bool → (number place : ℕ) → Option Refusal
-unless b n p = only (not b) (some (record { number = n; place = p }))
+unless b n p = only (not b) (Some (record { number = n; place = p }))
 
 abbrev pub Byte : ℕ → Type 0
 Byte x = x < 256

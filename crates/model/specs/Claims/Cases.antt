@@ -1,6 +1,5 @@
 -- The cases K1 to K12 of document 01: one table about `outcome`, whole books in and whole answers or refusals with their places out.
-use Rattle.std.specs.Prelude.{ℕ, ◌≡◌, true, List, [], ◌∷◌}
-use Rattle.std.proofs.Math.Option.{none, some}
+use Rattle.std.specs.Prelude.{ℕ, ◌≡◌, true, List, [], ◌∷◌, None, Some}
 use Rattle.model.specs.Basics.{All}
 use Rattle.model.specs.Book.Words.{Byte, words_of, bytes_of}
 use Rattle.model.specs.Book.Read.{counters, steps}
@@ -81,7 +80,7 @@ CasesHold = All (λ c. outcome dispatch_lends (bytes_of c.book) ≡ c.result) ca
 
 -- K1's variable 1, and the lines that it prints
 abbrev pub K1Column : Type 0
-K1Column = (left dispatch_lends (bytes_of k1_words)).bindings 1 ≡ some (40 ∷ 100 ∷ 100 ∷ 101 ∷ [])
+K1Column = (left dispatch_lends (bytes_of k1_words)).bindings 1 ≡ Some (40 ∷ 100 ∷ 100 ∷ 101 ∷ [])
 
 abbrev pub K1Lines : Type 0
 K1Lines = printed dispatch_lends (bytes_of k1_words) ≡ run 0 4 ∷ ins 0 (5 ∷ 100 ∷ []) ∷ ins 0 (8 ∷ 101 ∷ []) ∷ changed 0 ∷ table 0 3 ∷ counter 0 102 ∷ []
@@ -101,7 +100,7 @@ k1_run n = Steps.run k1_machine (counters (words_of k1_bytes)) (steps (words_of 
 -- K1's bytes, the functions and K1's steps are such as demand 3 supposes, the claims hold of them, and lanes do ask there: lanes 1 and 2 for one row, lane 3 for another
 pub record K1Demand3 : Type 0 where
   pub bytes : All Byte k1_bytes
-  pub unrefused : book_refusal k1_bytes ≡ none
+  pub unrefused : book_refusal k1_bytes ≡ None
   pub answers : NeverStale k1_machine.answer
   pub fit : All (StepOk k1_machine.tables k1_machine.rules) (steps (words_of k1_bytes))
   pub claims : (n : ℕ) → Claims k1_machine (counters (words_of k1_bytes)) (steps (words_of k1_bytes)) n

@@ -1,7 +1,5 @@
 -- Demand 3: for every book that draws none of refusals 1 to 11, whatever the functions answer, and every list of steps with which that stays so.
-use Rattle.std.specs.Prelude.{ℕ, ◌+◌, ◌≤◌, ◌<◌, ◌≡◌, ◌≢◌, Bool, false, List, [], ◌∷◌, T, length, get_or}
-use Rattle.std.proofs.Math.Option.{Option, none, some}
-use Rattle.std.proofs.Math.ListN.{get_elem?}
+use Rattle.std.specs.Prelude.{ℕ, ◌+◌, ◌≤◌, ◌<◌, ◌≡◌, ◌≢◌, Bool, false, List, [], ◌∷◌, T, length, get_or, Option, None, Some, slice_get}
 use Rattle.model.specs.Basics.{All, AllPairs}
 use Rattle.model.specs.Book.Syntax.{Clean, Counter, Var, Const, WriteVal, Entry, IncCounter, CurrentVal, Table, width, Rule, Step, batch, prediction, table_at, rule_at}
 use Rattle.model.specs.Book.Words.{Byte, words_of}
@@ -20,7 +18,7 @@ Answers = Site → (call func : ℕ) (args : List ℕ) → Option ℕ
 
 -- on clean words it gives no answer or a clean one
 abbrev pub NeverStale : Answers → Type 0
-NeverStale answer = (o : Site) (call func : ℕ) (args : List ℕ) (w : ℕ) → All Clean args → answer o call func args ≡ some w → Clean w
+NeverStale answer = (o : Site) (call func : ℕ) (args : List ℕ) (w : ℕ) → All Clean args → answer o call func args ≡ Some w → Clean w
 
 -- a prediction's write values: constants and counters
 abbrev pub Given : WriteVal → Type 0
@@ -77,7 +75,7 @@ module _ (E : Env) (counters : List Counter) (list : List Step) where
 
   -- in the first n steps a lane that is live before an instruction was live before each earlier one of its batch
   abbrev pub NoneReturns : ℕ → Type 0
-  NoneReturns n = (k r lanes : ℕ) (columns : List (List ℕ)) → k < n → get_elem? list k ≡ some (batch r lanes columns)
+  NoneReturns n = (k r lanes : ℕ) (columns : List (List ℕ)) → k < n → slice_get list k ≡ Some (batch r lanes columns)
       → (j j' : ℕ) → j ≤ j' → Within (before k r lanes columns j').live (before k r lanes columns j).live
 
   -- of the first n steps
@@ -96,11 +94,11 @@ machine book answer room = record { tables = tables (words_of book); rules = rul
 
 -- one claim over a whole list of steps, and over what each of its beginnings leaves
 abbrev pub Demand3 : Type 0
-Demand3 = (book : List ℕ) → All Byte book → book_refusal book ≡ none
+Demand3 = (book : List ℕ) → All Byte book → book_refusal book ≡ None
     → (answer : Answers) → NeverStale answer → (room : ℕ → Bool)
     → (list : List Step) → All (StepOk (tables (words_of book)) (rules (words_of book))) list
     → (n : ℕ) → Claims (machine book answer room) (counters (words_of book)) list n
 
 -- a book's own steps are such a list
 abbrev pub OwnSteps : Type 0
-OwnSteps = (book : List ℕ) → All Byte book → book_refusal book ≡ none → All (StepOk (tables (words_of book)) (rules (words_of book))) (steps (words_of book))
+OwnSteps = (book : List ℕ) → All Byte book → book_refusal book ≡ None → All (StepOk (tables (words_of book)) (rules (words_of book))) (steps (words_of book))

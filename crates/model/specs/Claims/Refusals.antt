@@ -1,7 +1,5 @@
 -- Each refusal comes under its own condition only: the conditions in the words of document 01's table, and the order among them.
-use Rattle.std.specs.Prelude.{ℕ, suc, ◌+◌, ◌*◌, ◌%◌, ◌≤◌, ◌<◌, ◌≡◌, ◌⊎◌, ◌↔◌, true, false, List, [], ◌∷◌, ◌++◌, map, length, get_or, take}
-use Rattle.std.proofs.Math.Option.{none, some}
-use Rattle.std.proofs.Math.ListN.{get_elem?}
+use Rattle.std.specs.Prelude.{ℕ, suc, ◌+◌, ◌*◌, ◌%◌, ◌≤◌, ◌<◌, ◌≡◌, ◌⊎◌, ◌↔◌, true, false, List, [], ◌∷◌, ◌++◌, map, length, get_or, take, None, Some, slice_get}
 use Rattle.model.specs.Basics.{All, first}
 use Rattle.model.specs.Book.Syntax.{Counter, no_counter, next_of, limit, QueryEntry, WriteVal, IncCounter, Instr, LookupOrInsertDefault, Table, width, Rule, Step, batch, prediction, table_at, rule_at}
 use Rattle.model.specs.Book.Words.{Refusal, Byte, words_of}
@@ -53,7 +51,7 @@ LaidOut w i ms = BodyForm (sizes w) (kind_of w i) ms × (map (λ (m : Word). m.w
 
 -- 6 and 4: word p of the book is a word of body i with which F finds fault
 abbrev pub WordAt : List ℕ → (Word → Type 0) → ℕ → ℕ → Type 0
-WordAt w F i p = (ms : List Word) × LaidOut w i ms × (k : ℕ) × (m : Word) × (get_elem? ms k ≡ some m) × F m × (p ≡ first_of w i + k)
+WordAt w F i p = (ms : List Word) × LaidOut w i ms × (k : ℕ) × (m : Word) × (slice_get ms k ≡ Some m) × F m × (p ≡ first_of w i + k)
 
 -- 5: row i has the key of an earlier row
 pub record Repeats (keys : ℕ) (rows : List (List ℕ)) (i : ℕ) : Type 0 where
@@ -63,7 +61,7 @@ pub record Repeats (keys : ℕ) (rows : List (List ℕ)) (i : ℕ) : Type 0 wher
 
 -- 8, 7, 10, 9: instruction j of rule r, with which F finds fault
 abbrev pub InstrAt : List ℕ → (Rule → ℕ → Instr → Type 0) → ℕ → ℕ → Type 0
-InstrAt w F r j = (r < rule_count w) × (ins : Instr) × (get_elem? (read_rule w (rule_first w r)).instrs j ≡ some ins) × F (read_rule w (rule_first w r)) j ins
+InstrAt w F r j = (r < rule_count w) × (ins : Instr) × (slice_get (read_rule w (rule_first w r)).instrs j ≡ Some ins) × F (read_rule w (rule_first w r)) j ins
 
 -- 11: v is the rule's, with v = 0 no lanes are given; key and write values fit the table
 abbrev pub StepFits : List Table → List Rule → Step → Type 0
@@ -265,14 +263,14 @@ pub record Overdraws (b : Bindings) (i : ℕ) (key : List ℕ) (vs : List WriteV
 -- step k stopped in s at a new row that overdraws a counter, of a key that neither a committed nor a predicted row has: a live lane's that last read this key, with dst held out, or a prediction's
 pub data Spends (ts : List Table) (rs : List Rule) (k : ℕ) (s : State) : Step → Type 0 where
   by_lane : {r n : ℕ} {columns : List (List ℕ)} (j i t : ℕ) (args : List QueryEntry) (vs : List WriteVal) (col dst : ℕ) (key : List ℕ)
-      → get_elem? (rule_at rs r).instrs j ≡ some (LookupOrInsertDefault t args vs col dst) → get_or s.live i false ≡ true
-      → values_of (hold dst s.bindings) i args ≡ some key → first s.trace ≡ some (reads (here k j i) key)
-      → find (table_at ts t).keys (table_at ts t).rows key ≡ none → predicted_rows (table_at ts t).keys t key s.log ≡ []
+      → slice_get (rule_at rs r).instrs j ≡ Some (LookupOrInsertDefault t args vs col dst) → get_or s.live i false ≡ true
+      → values_of (hold dst s.bindings) i args ≡ Some key → first s.trace ≡ Some (reads (here k j i) key)
+      → find (table_at ts t).keys (table_at ts t).rows key ≡ None → predicted_rows (table_at ts t).keys t key s.log ≡ []
       → Overdraws (hold dst s.bindings) i key vs s.counters → Spends ts rs k s (batch r n columns)
-  by_prediction : {t : ℕ} {key : List ℕ} {vs : List WriteVal} → find (table_at ts t).keys (table_at ts t).rows key ≡ none
-      → predicted_rows (table_at ts t).keys t key s.log ≡ [] → Overdraws (λ _. none) 0 key vs s.counters → Spends ts rs k s (prediction t key vs)
+  by_prediction : {t : ℕ} {key : List ℕ} {vs : List WriteVal} → find (table_at ts t).keys (table_at ts t).rows key ≡ None
+      → predicted_rows (table_at ts t).keys t key s.log ≡ [] → Overdraws (λ _. None) 0 key vs s.counters → Spends ts rs k s (prediction t key vs)
 
 -- where the machine says that a counter is spent, whatever its functions and steps, the step that it did not answer came to one
 abbrev pub SpentExact : Type 0
 SpentExact = (E : Env) (counters : List Counter) (steps : List Step) (n : ℕ) → let s : State = run E counters steps n in s.status ≡ spent
-    → (st : Step) × (get_elem? steps (length s.answers) ≡ some st) × Spends E.tables E.rules (length s.answers) s st
+    → (st : Step) × (slice_get steps (length s.answers) ≡ Some st) × Spends E.tables E.rules (length s.answers) s st

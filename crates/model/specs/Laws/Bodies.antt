@@ -1,10 +1,9 @@
 -- What is read from a body that is not refused is as demand 3 supposes it.
 use Prim.Native.Nat.{ℕ, zero, suc, ◌+◌, ◌*◌, ◌<◌, ◌≤◌}
-use Rattle.std.specs.Prelude.{◌≡◌, refl, ◌≢◌, Bool, true, false, ◌&&◌, cond, ltb, leb, length, take}
+use Rattle.std.specs.Prelude.{◌≡◌, refl, ◌≢◌, Bool, true, false, ◌&&◌, cond, ltb, leb, length, take, None, Some, slice_get}
 use Rattle.std.proofs.Common.{subst, arith, mul-le-mul_right, suc-mul, ltb-true, leb-true, length-take, length-drop, drop-cons}
-use Rattle.std.proofs.Math.Option.{none, some}
 use mathlib.Core.List.{List, [], ◌∷◌}
-use Rattle.std.proofs.Math.ListN.{get_or, get_elem?}
+use Rattle.std.proofs.Math.ListN.{get_or}
 use Rattle.model.specs.Basics.{All}
 use Rattle.model.specs.Book.Syntax.{stale, Clean, WriteVal, Entry, IncCounter, CurrentVal, Instr}
 use Rattle.model.specs.Book.Layout.{entries, writes, form_of}
@@ -108,7 +107,7 @@ module _ (z : Sizes) (w : List ℕ) (end : ℕ) (words : (p : ℕ) → get_or w 
   made_clean (suc (suc (suc (suc (suc (suc (suc (suc (suc (suc (suc (suc (suc zero))))))))))))) p o h = tt
   made_clean (suc (suc (suc (suc (suc (suc (suc (suc (suc (suc (suc (suc (suc (suc n)))))))))))))) p o h = absurd (omega (arith, (opcode_fine (suc (suc (suc (suc (suc (suc (suc (suc (suc (suc (suc (suc (suc (suc n)))))))))))))) o).1))
 
-  pub rule_consts : (at : ℕ) → RuleWords z w end at → (j : ℕ) (ins : Instr) → get_elem? (read_rule w at).instrs j ≡ some ins → All CleanConst (reads_of ins)
+  pub rule_consts : (at : ℕ) → RuleWords z w end at → (j : ℕ) (ins : Instr) → slice_get (read_rule w at).instrs j ≡ Some ins → All CleanConst (reads_of ins)
   unfolding read_rule instr_at
   rule_consts at r j ins e = All-at (λ ins. All CleanConst (reads_of ins)) (read_rule w at).instrs j (all_tab _ (λ j. instr_at w (instr_place w at j)) _ (λ i l. made_clean (get_or w (instr_place w at i) 0) (instr_place w at i + 1) (r.instrs i l).0 (r.instrs i l).1)) e
 
@@ -118,7 +117,7 @@ module _ (z : Sizes) (w : List ℕ) (end : ℕ) (words : (p : ℕ) → get_or w 
     place_fits : (i : ℕ) → i < get_or w (at + 3) 0 → row_place w at i + (get_or w at 0 + get_or w (at + 1) 0) ≤ length w
     place_fits i h = omega (arith, row_fits i (get_or w (at + 3) 0) (get_or w at 0 + get_or w (at + 1) 0) h, t.fills)
 
-    pub table_ok : repeated (read_table w at) ≡ none → TableOk (read_table w at)
+    pub table_ok : repeated (read_table w at) ≡ None → TableOk (read_table w at)
     unfolding read_table
     table_ok e = record {
       sized = all_tab _ _ _ (λ i h. length_part w _ _ (place_fits i h));

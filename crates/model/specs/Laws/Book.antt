@@ -1,7 +1,6 @@
 -- A book whose bodies can be read: how many of each it has, and what a number names.
-use Rattle.std.specs.Prelude.{ℕ, ◌+◌, ◌<◌, ◌≤◌, ◌≡◌, List, length, get_or}
+use Rattle.std.specs.Prelude.{ℕ, ◌+◌, ◌<◌, ◌≤◌, ◌≡◌, List, length, get_or, None}
 use Rattle.std.proofs.Math.Path.{ap}
-use Rattle.std.proofs.Math.Option.{none}
 use Rattle.std.proofs.Common.{arith}
 use Rattle.model.specs.Book.Syntax.{Table, width, table_at, rule_at}
 use Rattle.model.specs.Book.Contents.{most, count, members, first_of, contents_refusal, table_count, counter_count, rule_count, step_count, first_rule, first_step}
@@ -15,8 +14,8 @@ use Rattle.model.specs.Laws.Contents.{contents_ok, members_most, is_rule, is_ste
 pub record Readable (w : List ℕ) : Type 0 where
   pub one : 0 < length w
   pub most : length w ≤ 16384
-  pub contents : contents_refusal w ≡ none
-  pub bodies : bodies_refusal w ≡ none
+  pub contents : contents_refusal w ≡ None
+  pub bodies : bodies_refusal w ≡ None
 
 -- the key count of table t, and how many columns it has
 abbrev pub keys_of : List ℕ → ℕ → ℕ

@@ -1,10 +1,9 @@
 -- The contents: refusal 2 with no search, which entries are tables, counters, rules and steps, and that each body stands within the book.
 use Prim.Native.Nat.{ℕ, zero, suc, ◌+◌, ◌-◌, ◌<◌, ◌≤◌}
-use Rattle.std.specs.Prelude.{◌≡◌, Bool, List, length}
+use Rattle.std.specs.Prelude.{◌≡◌, Bool, List, length, None}
 use Rattle.std.proofs.Math.Path.{refl, subst}
 use Rattle.std.proofs.Common.{sym, ap, ◌∙◌, le_refl, lit≤}
 use Rattle.std.proofs.Math.Bool.{true, false, not}
-use Rattle.std.proofs.Math.Option.{none}
 use native.Mathlib.Omega.{arith}
 use Rattle.std.proofs.Math.Dec.{eqb, leb}
 use borrow.Author.Tests.{ltb-true, leb-true, leb-false, eqb-true, eqb-false, lt-ltb, le-leb, lt-leb, eq-eqb, ne_eqb, not-false}
@@ -55,7 +54,7 @@ module _ (w : List ℕ) where
   unfolding entry_fits
   ok_entry i r = and_join (and_join (and_join (le-leb _ _ r.rises) (lt-ltb _ _ r.known)) (le-leb _ _ r.room)) (eq-eqb _ _ r.follows)
 
-  pub contents_ok : contents_refusal w ≡ none → ContentsOk w
+  pub contents_ok : contents_refusal w ≡ None → ContentsOk w
   unfolding contents_refusal
   contents_ok e =
       let p = seq_none (unless (count_fits w) 2 0) _ _ e in

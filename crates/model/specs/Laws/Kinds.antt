@@ -1,7 +1,6 @@
 -- The bodies of a book that draws none of refusals 2, 3, 6 and 4: each stands within the book, and has the words of its kind.
-use Rattle.std.specs.Prelude.{ℕ, zero, suc, ◌+◌, ◌<◌, ◌≡◌, refl, ◌⊎◌, List}
+use Rattle.std.specs.Prelude.{ℕ, zero, suc, ◌+◌, ◌<◌, ◌≡◌, refl, ◌⊎◌, List, None}
 use Rattle.std.proofs.Common.{sym, subst, inl, inr, arith}
-use Rattle.std.proofs.Math.Option.{none}
 use Rattle.model.specs.Book.Contents.{group, count, kind_of, first_of, end_of, contents_refusal, table_count, counter_count, rule_count, step_count, first_rule, first_step}
 use Rattle.model.specs.Book.Scan.{Scan, bad, good, scan}
 use Rattle.model.specs.Book.Read.{drew3, drew6, drew4, sizes, walk, body_refusal, bodies_refusal}
@@ -11,7 +10,7 @@ use Rattle.model.specs.Laws.Contents.{ContentsOk, contents_ok, Inside, inside, i
 use Rattle.model.specs.Laws.Scan.{TableWords, CounterWords, RuleWords, BatchWords, PredictionWords, table_words_lem, counter_words, rule_words, batch_words_lem, prediction_words_lem}
 
 -- nothing drawn
-drew_none : (i : ℕ) (s : Scan) → drew3 i s ≡ none → drew6 s ≡ none → drew4 s ≡ none → (n : ℕ) × (s ≡ good n 0 0)
+drew_none : (i : ℕ) (s : Scan) → drew3 i s ≡ None → drew6 s ≡ None → drew4 s ≡ None → (n : ℕ) × (s ≡ good n 0 0)
 drew_none i bad a b c = absurd (none_some (sym a))
 drew_none i (good n zero zero) a b c = (n, refl)
 drew_none i (good n zero (suc q)) a b c = absurd (none_some (sym c))
@@ -53,7 +52,7 @@ group_4 (suc (suc (suc (suc zero)))) e = inl refl
 group_4 (suc (suc (suc (suc (suc zero))))) e = inr refl
 group_4 (suc (suc (suc (suc (suc (suc n)))))) e = absurd (omega arith)
 
-module _ (w : List ℕ) (no_contents : contents_refusal w ≡ none) (no_bodies : bodies_refusal w ≡ none) where
+module _ (w : List ℕ) (no_contents : contents_refusal w ≡ None) (no_bodies : bodies_refusal w ≡ None) where
   pub ok : ContentsOk w
   ok = contents_ok w no_contents
 

@@ -1,7 +1,6 @@
 -- Laws of the searches by an index, and of lists made by one.
-use Rattle.std.specs.Prelude.{ℕ, zero, suc, ◌<◌, ◌≡◌, refl, Bool, true, false, [], ◌∷◌, ◌++◌, length, get_or}
+use Rattle.std.specs.Prelude.{ℕ, zero, suc, ◌<◌, ◌≡◌, refl, Bool, true, false, [], ◌∷◌, ◌++◌, length, get_or, Option, None, Some}
 use Rattle.std.proofs.Common.{sym, ap, ◌∙◌, subst, arith, length-append}
-use Rattle.std.proofs.Math.Option.{Option, none, some}
 use Rattle.std.proofs.Math.ListN.{get_or-append}
 use Rattle.std.proofs.Math.Seq.{get_or-append_seam}
 use Rattle.model.specs.Basics.{only, All, first_some, least, tab}
@@ -16,33 +15,33 @@ module _ {A : Type 0} where
   pub record First (f : ℕ → Option A) (n : ℕ) (a : A) : Type 0 where
     pub index : ℕ
     pub below : index < n
-    pub here : f index ≡ some a
-    pub before : (j : ℕ) → j < index → f j ≡ none
+    pub here : f index ≡ Some a
+    pub before : (j : ℕ) → j < index → f j ≡ None
 
   module _ (f : ℕ → Option A) where
-    pub first_some_none : (n : ℕ) → first_some f n ≡ none → (i : ℕ) → i < n → f i ≡ none
+    pub first_some_none : (n : ℕ) → first_some f n ≡ None → (i : ℕ) → i < n → f i ≡ None
     first_some_none zero e i h = absurd (omega arith)
-    first_some_none (suc n) e i h = below_suc {P = λ i. f i ≡ none} n (first_some_none n (else_none (first_some f n) (λ _. f n) e).0) (else_none (first_some f n) (λ _. f n) e).1 i h
+    first_some_none (suc n) e i h = below_suc {P = λ i. f i ≡ None} n (first_some_none n (else_none (first_some f n) (λ _. f n) e).0) (else_none (first_some f n) (λ _. f n) e).1 i h
 
-    pub none_first_some : (n : ℕ) → ((i : ℕ) → i < n → f i ≡ none) → first_some f n ≡ none
+    pub none_first_some : (n : ℕ) → ((i : ℕ) → i < n → f i ≡ None) → first_some f n ≡ None
     none_first_some zero h = refl
     none_first_some (suc n) h = rw (none_first_some n (λ i l. h i (omega arith))) (h n (omega arith))
 
-    pub first_some_some : (n : ℕ) (a : A) → first_some f n ≡ some a → First f n a
+    pub first_some_some : (n : ℕ) (a : A) → first_some f n ≡ Some a → First f n a
     first_some_some zero a e = absurd (none_some e)
     first_some_some (suc n) a e = either (λ e'. longer (first_some_some n a e')) new (else_some (first_some f n) (λ _. f n) a e)
       where
         longer : First f n a → First f (suc n) a
         longer r = record { index = r.index; below = omega arith; here = r.here; before = r.before }
 
-        new : (first_some f n ≡ none) × (f n ≡ some a) → First f (suc n) a
+        new : (first_some f n ≡ None) × (f n ≡ Some a) → First f (suc n) a
         new p = record { index = n; below = omega arith; here = p.1; before = first_some_none n p.0 }
 
-    pub some_first_some : (n : ℕ) (a : A) → First f n a → first_some f n ≡ some a
+    pub some_first_some : (n : ℕ) (a : A) → First f n a → first_some f n ≡ Some a
     some_first_some zero a r = absurd (omega (arith, r.below))
     some_first_some (suc n) a r = either (λ l. rw (some_first_some n a (record { index = r.index; below = l; here = r.here; before = r.before }))) at_end (le_cases r.below)
       where
-        at_end : r.index ≡ n → first_some f (suc n) ≡ some a
+        at_end : r.index ≡ n → first_some f (suc n) ≡ Some a
         at_end e = rw (none_first_some n (λ i l. r.before i (omega arith))) (rw e at r.here)
 
 -- ## The least
@@ -53,22 +52,22 @@ pub record Least (p : ℕ → Bool) (n i : ℕ) : Type 0 where
   pub before : (j : ℕ) → j < i → p j ≡ false
 
 module _ (p : ℕ → Bool) (n : ℕ) where
-  pub least_none : least p n ≡ none → (i : ℕ) → i < n → p i ≡ false
-  least_none e i h = only_no (p i) i (first_some_none (λ i. only (p i) (some i)) n e i h)
+  pub least_none : least p n ≡ None → (i : ℕ) → i < n → p i ≡ false
+  least_none e i h = only_no (p i) i (first_some_none (λ i. only (p i) (Some i)) n e i h)
 
-  pub none_least : ((i : ℕ) → i < n → p i ≡ false) → least p n ≡ none
-  none_least h = none_first_some (λ i. only (p i) (some i)) n (λ i l. rw (h i l))
+  pub none_least : ((i : ℕ) → i < n → p i ≡ false) → least p n ≡ None
+  none_least h = none_first_some (λ i. only (p i) (Some i)) n (λ i l. rw (h i l))
 
-  pub least_some : (i : ℕ) → least p n ≡ some i → Least p n i
-  least_some i e = of (first_some_some (λ i. only (p i) (some i)) n i e)
+  pub least_some : (i : ℕ) → least p n ≡ Some i → Least p n i
+  least_some i e = of (first_some_some (λ i. only (p i) (Some i)) n i e)
     where
-      of : First (λ i. only (p i) (some i)) n i → Least p n i
+      of : First (λ i. only (p i) (Some i)) n i → Least p n i
       of r =
           let q = only_yes (p r.index) r.index i r.here in
           record { below = rw q.1 at r.below; here = rw q.1 at q.0; before = λ j l. only_no (p j) j (r.before j (rw (← q.1) at l)) }
 
-  pub some_least : (i : ℕ) → Least p n i → least p n ≡ some i
-  some_least i r = some_first_some (λ i. only (p i) (some i)) n i (record { index = i; below = r.below; here = rw r.here; before = λ j l. rw (r.before j l) })
+  pub some_least : (i : ℕ) → Least p n i → least p n ≡ Some i
+  some_least i r = some_first_some (λ i. only (p i) (Some i)) n i (record { index = i; below = r.below; here = rw r.here; before = λ j l. rw (r.before j l) })
 
 -- ## Lists by an index
 

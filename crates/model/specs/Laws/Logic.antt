@@ -1,11 +1,9 @@
 -- Laws of the small combinators: tests, options, `All`, `AllPairs`.
-use Rattle.std.specs.Prelude.{ℕ, zero, suc, ◌<◌, ◌≡◌, refl, ◌⊎◌, Bool, true, false, ◌&&◌, ◌||◌, not, List, [], ◌∷◌, ◌++◌, T, eqb, length, get_or, set}
+use Rattle.std.specs.Prelude.{ℕ, zero, suc, ◌<◌, ◌≡◌, refl, ◌⊎◌, Bool, true, false, ◌&&◌, ◌||◌, not, List, [], ◌∷◌, ◌++◌, T, eqb, length, get_or, set, Option, None, Some, slice_get}
 use Rattle.std.proofs.Common.{not-suc-le-zero, le_of_suc-le-suc, arith, sym, subst, inl, inr, eqb→eq}
 use Rattle.std.proofs.Math.Decide.{dec_lt}
 use Rattle.std.proofs.lemmas.Bool.{false≢true}
-use Rattle.std.proofs.Math.Option.{Option, none, some}
 use Rattle.std.proofs.Math.Dec.{eqb_refl}
-use Rattle.std.proofs.Math.ListN.{get_elem?}
 use Rattle.model.specs.Book.Words.{Refusal, unless}
 use Rattle.model.specs.Basics.{when, found, only, ◌else◌, eq_list, All, AllPairs}
 
@@ -72,22 +70,22 @@ or_cases false b e = inr e
 
 -- ## Options
 
-pub some_inj : {A : Type 0} {a b : A} → some a ≡ some b → a ≡ b
+pub some_inj : {A : Type 0} {a b : A} → Some a ≡ Some b → a ≡ b
 some_inj e = cc
 
-pub none_some : {A : Type 0} {a : A} → ◌≡◌ {A = Option A} none (some a) → ⊥
+pub none_some : {A : Type 0} {a : A} → ◌≡◌ {A = Option A} None (Some a) → ⊥
 none_some {A} {a} e = let z : ◌≡◌ {A = ℕ} 0 1 = cc in omega arith
 
 -- what a branch gives has P if each case has it
-pub found_ind : {A B : Type 0} (P : B → Type 0) (o : Option A) (f : A → B) (g : Unit {0} → B) → ((a : A) → o ≡ some a → P (f a)) → (o ≡ none → P (g tt)) → P (found o f g)
-found_ind P none f g h k = k refl
-found_ind P (some a) f g h k = h a refl
+pub found_ind : {A B : Type 0} (P : B → Type 0) (o : Option A) (f : A → B) (g : Unit {0} → B) → ((a : A) → o ≡ Some a → P (f a)) → (o ≡ None → P (g tt)) → P (found o f g)
+found_ind P None f g h k = k refl
+found_ind P (Some a) f g h k = h a refl
 
 pub when_ind : {A : Type 0} (P : A → Type 0) (b : Bool) (f : A → A) (s : A) → (T b → P (f s)) → P s → P (when b f s)
 when_ind P true f s h k = h tt
 when_ind P false f s h k = k
 
-pub only_some : {A : Type 0} (b : Bool) (o : Option A) {a : A} → only b o ≡ some a → T b × (o ≡ some a)
+pub only_some : {A : Type 0} (b : Bool) (o : Option A) {a : A} → only b o ≡ Some a → T b × (o ≡ Some a)
 only_some true o e = (tt, e)
 only_some false o e = absurd (none_some e)
 
@@ -95,36 +93,36 @@ pub only_T : {A : Type 0} (b : Bool) (o : Option A) → T b → only b o ≡ o
 only_T true o t = refl
 only_T false o t = absurd t
 
-pub only_yes : {A : Type 0} (b : Bool) (a x : A) → only b (some a) ≡ some x → (b ≡ true) × (a ≡ x)
+pub only_yes : {A : Type 0} (b : Bool) (a x : A) → only b (Some a) ≡ Some x → (b ≡ true) × (a ≡ x)
 only_yes true a x e = (refl, some_inj e)
 only_yes false a x e = absurd (none_some e)
 
-pub only_no : {A : Type 0} (b : Bool) (a : A) → only b (some a) ≡ none → b ≡ false
+pub only_no : {A : Type 0} (b : Bool) (a : A) → only b (Some a) ≡ None → b ≡ false
 only_no true a e = absurd (none_some (sym e))
 only_no false a e = refl
 
 -- one answer, else another
 module _ {A B : Type 0} where
-  pub seq_none : (o : Option A) (f : A → B) (k : Unit {0} → Option B) → found o (λ a. some (f a)) k ≡ none → (o ≡ none) × (k tt ≡ none)
-  seq_none none f k e = (refl, e)
-  seq_none (some a) f k e = absurd (none_some (sym e))
+  pub seq_none : (o : Option A) (f : A → B) (k : Unit {0} → Option B) → found o (λ a. Some (f a)) k ≡ None → (o ≡ None) × (k tt ≡ None)
+  seq_none None f k e = (refl, e)
+  seq_none (Some a) f k e = absurd (none_some (sym e))
 
-  pub seq_some : (o : Option A) (f : A → B) (k : Unit {0} → Option B) (b : B) → found o (λ a. some (f a)) k ≡ some b → ((a : A) × (o ≡ some a) × (f a ≡ b)) ⊎ ((o ≡ none) × (k tt ≡ some b))
-  seq_some none f k b e = inr (refl, e)
-  seq_some (some a) f k b e = inl (a, refl, some_inj e)
+  pub seq_some : (o : Option A) (f : A → B) (k : Unit {0} → Option B) (b : B) → found o (λ a. Some (f a)) k ≡ Some b → ((a : A) × (o ≡ Some a) × (f a ≡ b)) ⊎ ((o ≡ None) × (k tt ≡ Some b))
+  seq_some None f k b e = inr (refl, e)
+  seq_some (Some a) f k b e = inl (a, refl, some_inj e)
 
-pub else_none : {A : Type 0} (o : Option A) (k : Unit {0} → Option A) → (o else k) ≡ none → (o ≡ none) × (k tt ≡ none)
+pub else_none : {A : Type 0} (o : Option A) (k : Unit {0} → Option A) → (o else k) ≡ None → (o ≡ None) × (k tt ≡ None)
 else_none o k e = seq_none o (λ x. x) k e
 
-pub else_some : {A : Type 0} (o : Option A) (k : Unit {0} → Option A) (a : A) → (o else k) ≡ some a → (o ≡ some a) ⊎ ((o ≡ none) × (k tt ≡ some a))
-else_some none k a e = inr (refl, e)
-else_some (some b) k a e = inl e
+pub else_some : {A : Type 0} (o : Option A) (k : Unit {0} → Option A) (a : A) → (o else k) ≡ Some a → (o ≡ Some a) ⊎ ((o ≡ None) × (k tt ≡ Some a))
+else_some None k a e = inr (refl, e)
+else_some (Some b) k a e = inl e
 
-pub unless_none : (b : Bool) (n p : ℕ) → unless b n p ≡ none → b ≡ true
+pub unless_none : (b : Bool) (n p : ℕ) → unless b n p ≡ None → b ≡ true
 unless_none true n p e = refl
 unless_none false n p e = absurd (none_some (sym e))
 
-pub unless_some : (b : Bool) (n p : ℕ) (r : Refusal) → unless b n p ≡ some r → (b ≡ false) × (record { number = n; place = p } ≡ r)
+pub unless_some : (b : Bool) (n p : ℕ) (r : Refusal) → unless b n p ≡ Some r → (b ≡ false) × (record { number = n; place = p } ≡ r)
 unless_some true n p r e = absurd (none_some e)
 unless_some false n p r e = (refl, some_inj e)
 
@@ -146,7 +144,7 @@ pub All-right : {A : Type 0} (P : A → Type 0) (xs ys : List A) → All P (xs +
 All-right P [] ys h = h
 All-right P (x ∷ xs) ys h = All-right P xs ys h.1
 
-pub All-at : {A : Type 0} (P : A → Type 0) (xs : List A) (i : ℕ) {x : A} → All P xs → get_elem? xs i ≡ some x → P x
+pub All-at : {A : Type 0} (P : A → Type 0) (xs : List A) (i : ℕ) {x : A} → All P xs → slice_get xs i ≡ Some x → P x
 All-at P [] i h e = absurd (none_some e)
 All-at P (y ∷ xs) zero h e = subst P (some_inj e) h.0
 All-at P (y ∷ xs) (suc i) h e = All-at P xs i h.1 e
@@ -165,12 +163,12 @@ pub AllPairs-snoc : {A : Type 0} (R : A → A → Type 0) (xs : List A) (y : A) 
 AllPairs-snoc R [] y h k = (tt, tt)
 AllPairs-snoc R (x ∷ xs) y h k = (All-append (R x) xs (y ∷ []) h.0 (k.0, tt), AllPairs-snoc R xs y h.1 k.1)
 
-pub at_length : {A : Type 0} (xs : List A) (i : ℕ) → i < length xs → (x : A) × (get_elem? xs i ≡ some x)
+pub at_length : {A : Type 0} (xs : List A) (i : ℕ) → i < length xs → (x : A) × (slice_get xs i ≡ Some x)
 at_length [] i h = absurd (not-suc-le-zero h)
 at_length (x ∷ xs) zero h = (x, refl)
 at_length (x ∷ xs) (suc i) h = at_length xs i (le_of_suc-le-suc h)
 
-pub at_below : {A : Type 0} (xs : List A) (i : ℕ) {x : A} → get_elem? xs i ≡ some x → i < length xs
+pub at_below : {A : Type 0} (xs : List A) (i : ℕ) {x : A} → slice_get xs i ≡ Some x → i < length xs
 at_below [] i e = absurd (none_some e)
 at_below (x ∷ xs) zero e = omega arith
 at_below (x ∷ xs) (suc i) e = let h = at_below xs i e in omega arith

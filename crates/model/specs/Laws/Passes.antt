@@ -1,7 +1,6 @@
 -- What a pass over the lanes leaves, lane by lane, where each lane's turn gives it a dst, drops it, or does neither.
-use Rattle.std.specs.Prelude.{ℕ, zero, suc, ◌<◌, ◌≤◌, ◌≡◌, refl, ◌⊎◌, ◌≢◌, Bool, true, false, ◌&&◌, List, ltb, length, get_or, set}
+use Rattle.std.specs.Prelude.{ℕ, zero, suc, ◌<◌, ◌≤◌, ◌≡◌, refl, ◌⊎◌, ◌≢◌, Bool, true, false, ◌&&◌, List, ltb, length, get_or, set, Option, None, Some}
 use Rattle.std.proofs.Common.{sym, ap, ◌∙◌, inl, inr, arith, length-set, get_or-set_same, get_or-set_other, lt-ltb, le-ltb}
-use Rattle.std.proofs.Math.Option.{Option, none, some}
 use Rattle.std.proofs.Math.Decide.{dec_lt}
 use Rattle.std.proofs.Math.ListN.{get_or-eq_default}
 use Rattle.model.specs.Basics.{iter, when}
@@ -21,7 +20,7 @@ live_by (gives w) i l = l
 abbrev pub out_by : Effect → ℕ → List (Option ℕ) → List (Option ℕ)
 out_by keeps i o = o
 out_by loses i o = o
-out_by (gives w) i o = set o i (some w)
+out_by (gives w) i o = set o i (Some w)
 
 -- the same state but for its live lanes, what was found for dst, and the trace
 pub record Passed (s s' : State) (live : List Bool) (out : List (Option ℕ)) : Type 0 where
@@ -61,18 +60,18 @@ abbrev pub out_after : Bool → Effect → Option ℕ → Option ℕ
 out_after false e o = o
 out_after true keeps o = o
 out_after true loses o = o
-out_after true (gives w) o = some w
+out_after true (gives w) o = Some w
 
 -- which lanes have a turn, by the lane's mark and what was found for it
 pub record Turns (has : State → ℕ → Bool) (todo : Bool → Option ℕ → Bool) : Type 0 where
-  pub on : (s : State) (i : ℕ) → s.status ≡ going → has s i ≡ todo (get_or s.live i false) (get_or s.out i none)
+  pub on : (s : State) (i : ℕ) → s.status ≡ going → has s i ≡ todo (get_or s.live i false) (get_or s.out i None)
   pub off : (s : State) (i : ℕ) → s.status ≡ stuck → has s i ≡ false
   pub live : (o : Option ℕ) → todo false o ≡ false
 
 pub turns_live : Turns is_live (λ b o. b)
 turns_live = record { on = λ s i e. rw e; off = λ s i e. rw e; live = λ o. refl }
 
-pub turns_missed : Turns (λ s i. is_live s i && is_none (get_or s.out i none)) (λ b o. b && is_none o)
+pub turns_missed : Turns (λ s i. is_live s i && is_none (get_or s.out i None)) (λ b o. b && is_none o)
 turns_missed = record { on = λ s i e. rw e; off = λ s i e. rw e; live = λ o. refl }
 
 -- ## One lane
@@ -87,15 +86,15 @@ live_same keeps i l h = refl
 live_same loses i l h = get_or-set_same l i false false h
 live_same (gives w) i l h = refl
 
-out_other : (e : Effect) (i j : ℕ) (o : List (Option ℕ)) → j ≢ i → get_or (out_by e i o) j none ≡ get_or o j none
+out_other : (e : Effect) (i j : ℕ) (o : List (Option ℕ)) → j ≢ i → get_or (out_by e i o) j None ≡ get_or o j None
 out_other keeps i j o n = refl
 out_other loses i j o n = refl
-out_other (gives w) i j o n = get_or-set_other o i j (some w) none n
+out_other (gives w) i j o n = get_or-set_other o i j (Some w) None n
 
-out_same : (e : Effect) (i : ℕ) (o : List (Option ℕ)) → i < length o → get_or (out_by e i o) i none ≡ out_after true e (get_or o i none)
+out_same : (e : Effect) (i : ℕ) (o : List (Option ℕ)) → i < length o → get_or (out_by e i o) i None ≡ out_after true e (get_or o i None)
 out_same keeps i o h = refl
 out_same loses i o h = refl
-out_same (gives w) i o h = get_or-set_same o i (some w) none h
+out_same (gives w) i o h = get_or-set_same o i (Some w) None h
 
 length_live : (e : Effect) (i : ℕ) (l : List Bool) → length (live_by e i l) ≡ length l
 length_live keeps i l = refl
@@ -105,7 +104,7 @@ length_live (gives w) i l = refl
 length_out : (e : Effect) (i : ℕ) (o : List (Option ℕ)) → length (out_by e i o) ≡ length o
 length_out keeps i o = refl
 length_out loses i o = refl
-length_out (gives w) i o = length-set o i (some w)
+length_out (gives w) i o = length-set o i (Some w)
 
 bool_cases : (b : Bool) → (b ≡ true) ⊎ (b ≡ false)
 bool_cases true = inl refl
@@ -121,13 +120,13 @@ pub record Whole (todo : Bool → Option ℕ → Bool) (e : ℕ → Effect) (s�
   pub passed : Passed s₀ s s.live s.out
   pub live_size : length s.live ≡ length s₀.live
   pub out_size_lem : length s.out ≡ length s₀.out
-  pub live : (j : ℕ) → get_or s.live j false ≡ live_after (todo (get_or s₀.live j false) (get_or s₀.out j none)) (e j) (get_or s₀.live j false)
-  pub out : (j : ℕ) → get_or s.out j none ≡ out_after (todo (get_or s₀.live j false) (get_or s₀.out j none)) (e j) (get_or s₀.out j none)
+  pub live : (j : ℕ) → get_or s.live j false ≡ live_after (todo (get_or s₀.live j false) (get_or s₀.out j None)) (e j) (get_or s₀.live j false)
+  pub out : (j : ℕ) → get_or s.out j None ≡ out_after (todo (get_or s₀.live j false) (get_or s₀.out j None)) (e j) (get_or s₀.out j None)
 
 module _ (has : State → ℕ → Bool) (todo : Bool → Option ℕ → Bool) (q : Turns has todo) (f : ℕ → State → State) (e : ℕ → Effect) (s₀ : State) (run : s₀.status ≡ going) (sizes : length s₀.out ≡ length s₀.live)
     (does : (i : ℕ) (s : State) → i < length s₀.live → s.bindings ≡ s₀.bindings → s.status ≡ going → Does (e i) i s (f i s)) where
   abbrev due : ℕ → Bool
-  due j = todo (get_or s₀.live j false) (get_or s₀.out j none)
+  due j = todo (get_or s₀.live j false) (get_or s₀.out j None)
 
   -- lane j has had a turn among the first i
   abbrev turned : ℕ → ℕ → Bool
@@ -138,7 +137,7 @@ module _ (has : State → ℕ → Bool) (todo : Bool → Option ℕ → Bool) (q
     live_size : length s.live ≡ length s₀.live
     out_size_lem : length s.out ≡ length s₀.out
     live : (j : ℕ) → get_or s.live j false ≡ live_after (turned i j) (e j) (get_or s₀.live j false)
-    out : (j : ℕ) → get_or s.out j none ≡ out_after (turned i j) (e j) (get_or s₀.out j none)
+    out : (j : ℕ) → get_or s.out j None ≡ out_after (turned i j) (e j) (get_or s₀.out j None)
 
   turned_later : (i j : ℕ) → j ≢ i → turned (suc i) j ≡ turned i j
   turned_later i j n = elim (dec_lt j i) [ yes p ↦ rw (lt-ltb j i p, lt-ltb j (suc i) (omega arith)) | no p ↦ rw (le-ltb j i (omega arith), le-ltb j (suc i) (omega arith)) ]
@@ -157,7 +156,7 @@ module _ (has : State → ℕ → Bool) (todo : Bool → Option ℕ → Bool) (q
         live_size = m.live_size;
         out_size_lem = m.out_size_lem;
         live = λ j. m.live j ∙ ap (λ (t : Bool). live_after t (e j) (get_or s₀.live j false)) (same j);
-        out = λ j. m.out j ∙ ap (λ (t : Bool). out_after t (e j) (get_or s₀.out j none)) (same j);
+        out = λ j. m.out j ∙ ap (λ (t : Bool). out_after t (e j) (get_or s₀.out j None)) (same j);
       }
     where
       same : (j : ℕ) → turned i j ≡ turned (suc i) j
@@ -170,13 +169,13 @@ module _ (has : State → ℕ → Bool) (todo : Bool → Option ℕ → Bool) (q
         live_size = ap length p.live_is ∙ length_live (e i) i s.live ∙ m.live_size;
         out_size_lem = ap length p.out_is ∙ length_out (e i) i s.out ∙ m.out_size_lem;
         live = λ j. ap (λ (l : List Bool). get_or l j false) p.live_is ∙ either (live_now j) (λ n. live_other (e i) i j s.live n ∙ m.live j ∙ ap (λ (t : Bool). live_after t (e j) (get_or s₀.live j false)) (sym (turned_later i j n))) (eq_or_not i j);
-        out = λ j. ap (λ (l : List (Option ℕ)). get_or l j none) p.out_is ∙ either (out_now j) (λ n. out_other (e i) i j s.out n ∙ m.out j ∙ ap (λ (t : Bool). out_after t (e j) (get_or s₀.out j none)) (sym (turned_later i j n))) (eq_or_not i j);
+        out = λ j. ap (λ (l : List (Option ℕ)). get_or l j None) p.out_is ∙ either (out_now j) (λ n. out_other (e i) i j s.out n ∙ m.out j ∙ ap (λ (t : Bool). out_after t (e j) (get_or s₀.out j None)) (sym (turned_later i j n))) (eq_or_not i j);
       }
     where
       live_now : (j : ℕ) → j ≡ i → get_or (live_by (e i) i s.live) j false ≡ live_after (turned (suc i) j) (e j) (get_or s₀.live j false)
       live_now j eq = rw (eq, turned_now i, z) (live_same (e i) i s.live (omega (arith, m.live_size)) ∙ ap (live_after true (e i)) (m.live i ∙ rw (turned_here i)))
 
-      out_now : (j : ℕ) → j ≡ i → get_or (out_by (e i) i s.out) j none ≡ out_after (turned (suc i) j) (e j) (get_or s₀.out j none)
+      out_now : (j : ℕ) → j ≡ i → get_or (out_by (e i) i s.out) j None ≡ out_after (turned (suc i) j) (e j) (get_or s₀.out j None)
       out_now j eq = rw (eq, turned_now i, z) (out_same (e i) i s.out (omega (arith, m.out_size_lem, sizes)) ∙ ap (out_after true (e i)) (m.out i ∙ rw (turned_here i)))
 
   abbrev pass : ℕ → State
@@ -199,7 +198,7 @@ module _ (has : State → ℕ → Bool) (todo : Bool → Option ℕ → Bool) (q
           turn z = rw (here ∙ z) (either inl (λ p. inr (took i (pass i) (f i (pass i)) (omega arith) z m p)) (does i (pass i) (omega arith) m.passed.bindings going_on))
 
   all_turned : (j : ℕ) → turned (length s₀.live) j ≡ due j
-  all_turned j = elim (dec_lt j (length s₀.live)) [ yes p ↦ rw (lt-ltb j (length s₀.live) p) | no p ↦ rw (le-ltb j (length s₀.live) (omega arith)) (sym (rw (get_or-eq_default s₀.live false {n = j} (omega arith)) (q.live (get_or s₀.out j none)))) ]
+  all_turned j = elim (dec_lt j (length s₀.live)) [ yes p ↦ rw (lt-ltb j (length s₀.live) p) | no p ↦ rw (le-ltb j (length s₀.live) (omega arith)) (sym (rw (get_or-eq_default s₀.live false {n = j} (omega arith)) (q.live (get_or s₀.out j None)))) ]
 
   pub whole : ((pass (length s₀.live)).status ≡ stuck) ⊎ Whole todo e s₀ (pass (length s₀.live))
   whole = either inl (λ m. inr (record { passed = m.passed; live_size = m.live_size; out_size_lem = m.out_size_lem; live = λ j. m.live j ∙ rw (all_turned j); out = λ j. m.out j ∙ rw (all_turned j) })) (mid (length s₀.live) (omega arith))

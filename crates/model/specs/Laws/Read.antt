@@ -1,10 +1,9 @@
 -- The whole reading: a book that draws none of 2, 3, 6, 4, 5 and 11 reads to what demand 3 supposes.
 use Prim.Native.Nat.{ℕ, zero, suc, ◌+◌, ◌*◌, ◌<◌, ◌≤◌}
-use Rattle.std.specs.Prelude.{◌≡◌, ◌≢◌, List}
+use Rattle.std.specs.Prelude.{◌≡◌, ◌≢◌, List, None, Some, slice_get}
 use Rattle.std.proofs.Common.{sym, ◌∙◌, arith}
 use Rattle.std.proofs.Math.Path.{subst}
-use Rattle.std.proofs.Math.Option.{none, some}
-use Rattle.std.proofs.Math.ListN.{length, get_or, get_elem?}
+use Rattle.std.proofs.Math.ListN.{length, get_or}
 use Rattle.model.specs.Basics.{All}
 use Rattle.model.specs.Book.Syntax.{stale, Clean, Instr, Rule}
 use Rattle.model.specs.Book.Contents.{count, kind_of, first_of, end_of, contents_refusal, table_count, counter_count, rule_count, step_count, first_rule, first_step}
@@ -23,17 +22,17 @@ use Rattle.model.specs.Claims.Demand3.{Given, StepOk}
 use Rattle.model.specs.Laws.Supposed.{TableOk, CleanConst, CounterOk}
 use Rattle.model.specs.Laws.Bodies.{all_part, length_part, row_fits, not_stale, tag_fine, table_ok, rule_consts}
 
-module _ (w : List ℕ) (words : (p : ℕ) → get_or w p 0 < 4294967296) (no_contents : contents_refusal w ≡ none) (no_bodies : bodies_refusal w ≡ none) where
+module _ (w : List ℕ) (words : (p : ℕ) → get_or w p 0 < 4294967296) (no_contents : contents_refusal w ≡ None) (no_bodies : bodies_refusal w ≡ None) where
   abbrev z : Sizes
   z = sizes w
 
-  rows_clear : (i : ℕ) → i < count w → kind_of w i ≡ 1 → repeated (read_table w (first_of w i)) ≡ none
+  rows_clear : (i : ℕ) → i < count w → kind_of w i ≡ 1 → repeated (read_table w (first_of w i)) ≡ None
   unfolding body_refusal bodies_refusal
   rows_clear i h k =
       let a = seq_none (drew3 i (walk w i)) (λ x. x) _ (first_some_none (body_refusal w) (count w) no_bodies i h) in
       let b = seq_none (drew6 (walk w i)) (λ x. x) _ a.1 in
       let c = seq_none (drew4 (walk w i)) (λ x. x) _ b.1 in
-      let d : rows_refusal w (first_of w i) ≡ none = rw k at c.1 in
+      let d : rows_refusal w (first_of w i) ≡ None = rw k at c.1 in
       (seq_none (repeated (read_table w (first_of w i))) _ _ d).0
 
   table_at_lem : (t : ℕ) → t < table_count w → TableOk (read_table w (first_of w t))
@@ -55,7 +54,7 @@ module _ (w : List ℕ) (words : (p : ℕ) → get_or w p 0 < 4294967296) (no_co
   counters_ok = all_tab CounterOk (λ c. read_counter w (first_of w (table_count w + c))) (counter_count w) counter_at
 
   abbrev Consts : Rule → Type 0
-  Consts r = (j : ℕ) (ins : Instr) → get_elem? r.instrs j ≡ some ins → All CleanConst (reads_of ins)
+  Consts r = (j : ℕ) (ins : Instr) → slice_get r.instrs j ≡ Some ins → All CleanConst (reads_of ins)
 
   pub rule_at_lem : (r : ℕ) → r < rule_count w → Consts (read_rule w (first_of w (first_rule w + r)))
   rule_at_lem r l =
@@ -68,7 +67,7 @@ module _ (w : List ℕ) (words : (p : ℕ) → get_or w p 0 < 4294967296) (no_co
 
   -- ## Steps
 
-  module _ (no_steps : steps_refusal w ≡ none) where
+  module _ (no_steps : steps_refusal w ≡ None) where
     rule_number : length (rules w) ≡ rule_count w
     unfolding rules
     rule_number = length_tab _ (rule_count w)

@@ -1,6 +1,5 @@
 -- Refusal 11 with no test.
-use Rattle.std.specs.Prelude.{ℕ, zero, suc, ◌+◌, ◌<◌, ◌≡◌, refl, true, not, ◌||◌, List, eqb, ltb, length}
-use Rattle.std.proofs.Math.Option.{none}
+use Rattle.std.specs.Prelude.{ℕ, zero, suc, ◌+◌, ◌<◌, ◌≡◌, refl, true, not, ◌||◌, List, eqb, ltb, length, None}
 use Rattle.std.proofs.Common.{arith, ltb-true, eqb-true, lt-ltb, eq-eqb}
 use Rattle.std.proofs.lemmas.Bool.{not-false}
 use Rattle.model.specs.Basics.{least}
@@ -26,7 +25,7 @@ module _ (ts : List Table) (rs : List Rule) where
       none_or (suc n) lanes h = rw (lt-ltb 0 (suc n) (omega arith))
   true_step (prediction t key vs) p = and_join (eq-eqb _ _ p.0) (eq-eqb _ _ p.1)
 
-pub steps_ok : (w : List ℕ) → steps_refusal w ≡ none → (k : ℕ) → k < step_count w → StepFits (tables w) (rules w) (step w k)
+pub steps_ok : (w : List ℕ) → steps_refusal w ≡ None → (k : ℕ) → k < step_count w → StepFits (tables w) (rules w) (step w k)
 unfolding steps_refusal
 steps_ok w e k h =
     step_true (tables w) (rules w) (step w k)

@@ -1,7 +1,5 @@
 -- What the proof of demand 3 supposes of a book that has been read; `Laws.Read` shows that a book which draws no refusal is such.
-use Rattle.std.specs.Prelude.{ℕ, ◌≤◌, ◌≡◌, ◌≢◌, List, length, take}
-use Rattle.std.proofs.Math.Option.{some}
-use Rattle.std.proofs.Math.ListN.{get_elem?}
+use Rattle.std.specs.Prelude.{ℕ, ◌≤◌, ◌≡◌, ◌≢◌, List, length, take, Some, slice_get}
 use Rattle.model.specs.Basics.{All, AllPairs}
 use Rattle.model.specs.Book.Syntax.{Clean, Counter, next_of, limit, QueryEntry, Var, Const, Instr, Table, width, Rule, Step}
 use Rattle.model.specs.Check.{reads_of, Conditions}
@@ -21,7 +19,7 @@ CleanConst (Const c) = Clean c
 
 -- a rule that can be read and passes the check
 pub record RuleOk (E : Env) (r : Rule) : Type 0 where
-  pub consts : (j : ℕ) (ins : Instr) → get_elem? r.instrs j ≡ some ins → All CleanConst (reads_of ins)
+  pub consts : (j : ℕ) (ins : Instr) → slice_get r.instrs j ≡ Some ins → All CleanConst (reads_of ins)
   pub conditions : Conditions E.tables E.arity r
 
 -- refusal 4 of a counter

@@ -1,7 +1,5 @@
 -- What a lane's turn comes to, case by case, as equations: for the loops of the code.
-use Rattle.std.specs.Prelude.{ℕ, ◌+◌, ◌≡◌, refl, Bool, true, false, not, List, [], ◌∷◌, ◌++◌, eqb, leb, length, take, drop}
-use Rattle.std.proofs.Math.Option.{Option, none, some}
-use Rattle.std.proofs.Math.ListN.{get_elem?}
+use Rattle.std.specs.Prelude.{ℕ, ◌+◌, ◌≡◌, refl, Bool, true, false, not, List, [], ◌∷◌, ◌++◌, eqb, leb, length, take, drop, Option, None, Some, slice_get}
 use Rattle.model.specs.Basics.{when}
 use Rattle.model.specs.Book.Syntax.{Counter, QueryEntry, WriteVal, width}
 use Rattle.model.specs.Machine.State.{State, Site, Record, reads, took, stuck, spent, full, Bindings, Env, stop, need, if_room, note, give, lose, with_counters, change, logged, log_words}
@@ -15,49 +13,49 @@ pub when_F : {A : Type 0} (b : Bool) (f : A → A) (s : A) → b ≡ false → w
 when_F b f s e = rw e
 
 -- what each case of a branch has
-pub need_ind : {A : Type 0} (P : State → Type 0) (o : Option A) (s : State) (k : A → State) → P (stop stuck s) → ((a : A) → o ≡ some a → P (k a)) → P (need o s k)
-need_ind P none s k p h = p
-need_ind P (some a) s k p h = h a refl
+pub need_ind : {A : Type 0} (P : State → Type 0) (o : Option A) (s : State) (k : A → State) → P (stop stuck s) → ((a : A) → o ≡ Some a → P (k a)) → P (need o s k)
+need_ind P None s k p h = p
+need_ind P (Some a) s k p h = h a refl
 
 pub room_ind : (P : State → Type 0) (b : Bool) (r : Record) (s : State) (k : State → State) → P (k (logged r s)) → P (stop full s) → P (if_room b r s k)
 room_ind P true r s k p q = p
 room_ind P false r s k p q = q
 
 module _ (o : Site) (s : State) where
-  pub default_is : (e : QueryEntry) (w : ℕ) → value_of s.bindings o.lane e ≡ some w → take_default o e s ≡ give o.lane w (note (reads o (w ∷ [])) s)
+  pub default_is : (e : QueryEntry) (w : ℕ) → value_of s.bindings o.lane e ≡ Some w → take_default o e s ≡ give o.lane w (note (reads o (w ∷ [])) s)
   unfolding take_default
   default_is e w rd = rw rd
 
-  pub two_is : (l r : QueryEntry) (k : ℕ → ℕ → State → State) (a b : ℕ) → value_of s.bindings o.lane l ≡ some a → value_of s.bindings o.lane r ≡ some b → read_pair o l r k s ≡ k a b (note (reads o (a ∷ b ∷ [])) s)
+  pub two_is : (l r : QueryEntry) (k : ℕ → ℕ → State → State) (a b : ℕ) → value_of s.bindings o.lane l ≡ Some a → value_of s.bindings o.lane r ≡ Some b → read_pair o l r k s ≡ k a b (note (reads o (a ∷ b ∷ [])) s)
   unfolding read_pair
   two_is l r k a b p q = rw (p, q)
 
-  pub any_is : (d : ℕ) (ops : List QueryEntry) (ws : List ℕ) → leb d (length ops) ≡ true → values_of s.bindings o.lane ops ≡ some ws
+  pub any_is : (d : ℕ) (ops : List QueryEntry) (ws : List ℕ) → leb d (length ops) ≡ true → values_of s.bindings o.lane ops ≡ Some ws
       → assert_any_ne o d ops s ≡ when (not (any_ne (take d ws) (drop d ws))) (lose o.lane) (note (reads o ws) s)
   unfolding assert_any_ne
   any_is d ops ws le rd = rw (le, rd)
 
 module _ (E : Env) (o : Site) (s : State) where
-  module _ (t : ℕ) (args : List QueryEntry) (col : ℕ) (miss : State → State) (key : List ℕ) (rd : list_of s.bindings o.lane (table_of E t).keys args ≡ some key) where
-    pub look_hit : (r : List ℕ) (w : ℕ) → find (table_of E t).keys (table_of E t).rows key ≡ some r → get_elem? r col ≡ some w
+  module _ (t : ℕ) (args : List QueryEntry) (col : ℕ) (miss : State → State) (key : List ℕ) (rd : list_of s.bindings o.lane (table_of E t).keys args ≡ Some key) where
+    pub look_hit : (r : List ℕ) (w : ℕ) → find (table_of E t).keys (table_of E t).rows key ≡ Some r → slice_get r col ≡ Some w
         → lookup E o t args col miss s ≡ give o.lane w (note (took o r) (note (reads o key) s))
     unfolding lookup take_column
     look_hit r w f c = rw (rd, f, c)
 
-    pub look_miss : find (table_of E t).keys (table_of E t).rows key ≡ none → lookup E o t args col miss s ≡ miss (note (reads o key) s)
+    pub look_miss : find (table_of E t).keys (table_of E t).rows key ≡ None → lookup E o t args col miss s ≡ miss (note (reads o key) s)
     unfolding lookup
     look_miss f = rw (rd, f)
 
-  module _ (c : ℕ) (held : Bindings → Bindings) (f : ℕ) (args : List QueryEntry) (miss : State → State) (ws : List ℕ) (rd : list_of (held s.bindings) o.lane (E.arity f) args ≡ some ws) where
-    pub call_some : (w : ℕ) → E.answer o c f ws ≡ some w → invoke E o c held f args miss s ≡ give o.lane w (note (reads o ws) s)
+  module _ (c : ℕ) (held : Bindings → Bindings) (f : ℕ) (args : List QueryEntry) (miss : State → State) (ws : List ℕ) (rd : list_of (held s.bindings) o.lane (E.arity f) args ≡ Some ws) where
+    pub call_some : (w : ℕ) → E.answer o c f ws ≡ Some w → invoke E o c held f args miss s ≡ give o.lane w (note (reads o ws) s)
     unfolding invoke
     call_some w a = rw (rd, a)
 
-    pub call_none : E.answer o c f ws ≡ none → invoke E o c held f args miss s ≡ miss (note (reads o ws) s)
+    pub call_none : E.answer o c f ws ≡ None → invoke E o c held f args miss s ≡ miss (note (reads o ws) s)
     unfolding invoke
     call_none a = rw (rd, a)
 
-  module _ (kind t n : ℕ) (vals : List QueryEntry) (ws : List ℕ) (rd : list_of s.bindings o.lane n vals ≡ some ws) where
+  module _ (kind t n : ℕ) (vals : List QueryEntry) (ws : List ℕ) (rd : list_of s.bindings o.lane n vals ≡ Some ws) where
     abbrev rec : Record
     rec = record { site = o; kind = kind; table = t; words = ws }
 

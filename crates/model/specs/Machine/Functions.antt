@@ -1,12 +1,11 @@
 -- The functions 0 to 7 that stand in for `ExternalFunction`.
-use Rattle.std.specs.Prelude.{ℕ, ◌+◌, ◌-◌, min, max, Bool, cond, List, [], ◌∷◌, eqb, ltb, leb, length, get_or}
-use Rattle.std.proofs.Math.Option.{Option, none, some}
+use Rattle.std.specs.Prelude.{ℕ, ◌+◌, ◌-◌, min, max, Bool, cond, List, [], ◌∷◌, eqb, ltb, leb, length, get_or, Option, None, Some}
 use Rattle.model.specs.Basics.{only}
 use Rattle.model.specs.Book.Syntax.{Table, Rule}
 use Rattle.model.specs.Machine.State.{Env}
 
 abbrev pub band : ℕ → Option ℕ
-band p = only (leb p 100) (some (cond (leb p 49) 0 (cond (leb p 79) 1 2)))
+band p = only (leb p 100) (Some (cond (leb p 49) 0 (cond (leb p 79) 1 2)))
 
 -- what a function answers, by how many arguments it takes
 pub data Function : Type 0 where
@@ -16,14 +15,14 @@ pub data Function : Type 0 where
 -- by number
 abbrev pub functions : List Function
 functions =
-    of_two (λ a b. only (leb (a + b) 4294967294) (some (a + b)))
-    ∷ of_two (λ a b. only (leb b a) (some (a - b)))
-    ∷ of_two (λ a b. only (ltb a b) (some a))
-    ∷ of_two (λ a b. only (leb a b) (some a))
-    ∷ of_two (λ a b. some (min a b))
-    ∷ of_two (λ a b. some (max a b))
+    of_two (λ a b. only (leb (a + b) 4294967294) (Some (a + b)))
+    ∷ of_two (λ a b. only (leb b a) (Some (a - b)))
+    ∷ of_two (λ a b. only (ltb a b) (Some a))
+    ∷ of_two (λ a b. only (leb a b) (Some a))
+    ∷ of_two (λ a b. Some (min a b))
+    ∷ of_two (λ a b. Some (max a b))
     ∷ of_one band
-    ∷ of_two (λ a b. some ((a - b) + (b - a)))
+    ∷ of_two (λ a b. Some ((a - b) + (b - a)))
     ∷ []
 
 abbrev pub function_count : ℕ
@@ -31,7 +30,7 @@ function_count = length functions
 
 -- past the last number stands one that never answers; no book that is run names it
 abbrev pub no_function : Function
-no_function = of_two (λ a b. none)
+no_function = of_two (λ a b. None)
 
 abbrev pub function_of : ℕ → Function
 function_of f = get_or functions f no_function

@@ -1,6 +1,5 @@
 -- The plain machine's state, what a run leaves behind of itself, and the ways in which the state changes.
-use Rattle.std.specs.Prelude.{ℕ, ◌+◌, Bool, true, false, cond, List, [], ◌∷◌, ◌++◌, eqb, length, set}
-use Rattle.std.proofs.Math.Option.{Option, none, some}
+use Rattle.std.specs.Prelude.{ℕ, ◌+◌, Bool, true, false, cond, List, [], ◌∷◌, ◌++◌, eqb, length, set, Option, None, Some}
 use Rattle.model.specs.Book.Syntax.{Table, width, Rule, Counter}
 
 -- where in a run something happens: a step, an instruction of its rule, a lane (of a prediction: 0 and 0)
@@ -76,7 +75,7 @@ note e s = record { bindings = s.bindings; live = s.live; out = s.out; log = s.l
 
 -- the lane's dst; a lane dropped
 abbrev pub give : ℕ → ℕ → State → State
-give i w s = record { bindings = s.bindings; live = s.live; out = set s.out i (some w); log = s.log; counters = s.counters; changed = s.changed; trace = s.trace; answers = s.answers; status = s.status }
+give i w s = record { bindings = s.bindings; live = s.live; out = set s.out i (Some w); log = s.log; counters = s.counters; changed = s.changed; trace = s.trace; answers = s.answers; status = s.status }
 
 abbrev pub lose : ℕ → State → State
 lose i s = record { bindings = s.bindings; live = set s.live i false; out = s.out; log = s.log; counters = s.counters; changed = s.changed; trace = s.trace; answers = s.answers; status = s.status }
@@ -99,8 +98,8 @@ frame b l o s = record { bindings = b; live = l; out = o; log = s.log; counters 
 
 -- needed: where it is absent the machine is stuck
 abbrev pub need : {A : Type 0} → Option A → State → (A → State) → State
-need none s k = stop stuck s
-need (some a) s k = k a
+need None s k = stop stuck s
+need (Some a) s k = k a
 
 -- ## Logging
 

@@ -1,7 +1,5 @@
 -- The plain machine of document 01, on a book that has been read.
-use Rattle.std.specs.Prelude.{ℕ, zero, suc, ◌+◌, Bool, true, false, ◌&&◌, ◌||◌, not, List, [], ◌∷◌, ◌++◌, map, eqb, leb, length, get_or, take, drop, replicate}
-use Rattle.std.proofs.Math.Option.{Option, none, some}
-use Rattle.std.proofs.Math.ListN.{get_elem?}
+use Rattle.std.specs.Prelude.{ℕ, zero, suc, ◌+◌, Bool, true, false, ◌&&◌, ◌||◌, not, List, [], ◌∷◌, ◌++◌, map, eqb, leb, length, get_or, take, drop, replicate, Option, None, Some, slice_get}
 use Rattle.model.specs.Basics.{iter, when, found, only, first}
 use Rattle.model.specs.Book.Syntax.{stale, Counter, no_counter, next_of, QueryEntry, WriteVal, Instr, LookupOrInsertDefault, LookupWithDefault, Lookup, LookupWithFallback, Insert, InsertIfEq, Remove, External, ExternalWithFallback, AssertEq, AssertNe, AssertAnyNe, ReadCounter, dst_of, Table, width, Rule, Step, batch, prediction, table_at, rule_at}
 use Rattle.model.specs.Machine.State.{State, Site, Record, mask, reads, took, asks, going, stuck, spent, is_going, Bindings, survivors, predicted, Env, stop, note, give, lose, with_counters, change, reply, frame, need, if_room, log_words}
@@ -16,15 +14,15 @@ abbrev pub is_live : State → ℕ → Bool
 is_live s i = is_going s.status && get_or s.live i false
 
 abbrev pub is_none : Option ℕ → Bool
-is_none none = true
-is_none (some w) = false
+is_none None = true
+is_none (Some w) = false
 
 -- each live lane, ascending; each live lane that has no dst yet
 unfoldable pub lanes : (ℕ → State → State) → State → State
 lanes f s = iter (λ i s'. when (is_live s' i) (f i) s') (length s.live) s
 
 unfoldable pub missed : (ℕ → State → State) → State → State
-missed f s = iter (λ i s'. when (is_live s' i && is_none (get_or s'.out i none)) (f i) s') (length s.live) s
+missed f s = iter (λ i s'. when (is_live s' i && is_none (get_or s'.out i None)) (f i) s') (length s.live) s
 
 -- a missed lane is left as it is, to be served later
 abbrev pub wait : State → State
@@ -34,15 +32,15 @@ abbrev pub plain : Bindings → Bindings
 plain b = b
 
 abbrev pub clear : State → State
-clear s = frame s.bindings s.live (replicate (length s.live) none) s
+clear s = frame s.bindings s.live (replicate (length s.live) None) s
 
 abbrev pub or_stale : Option ℕ → ℕ
-or_stale none = stale
-or_stale (some w) = w
+or_stale None = stale
+or_stale (Some w) = w
 
 abbrev pub bind_out : Option ℕ → State → State
-bind_out none s = s
-bind_out (some dst) s = frame (bind dst (map or_stale s.out) s.bindings) s.live s.out s
+bind_out None s = s
+bind_out (Some dst) s = frame (bind dst (map or_stale s.out) s.bindings) s.live s.out s
 
 abbrev pub any_live : List Bool → Bool
 any_live [] = false
@@ -61,7 +59,7 @@ read_pair o l r k s =
 
 -- its dst is a column of the row
 unfoldable pub take_column : Site → ℕ → List ℕ → State → State
-take_column o col r s = need (get_elem? r col) s λ w. give o.lane w (note (took o r) s)
+take_column o col r s = need (slice_get r col) s λ w. give o.lane w (note (took o r) s)
 
 unfoldable pub take_default : Site → QueryEntry → State → State
 take_default o e s = need (value_of s.bindings o.lane e) s λ w. give o.lane w (note (reads o (w ∷ [])) s)
@@ -74,7 +72,7 @@ assert_any_ne o d ops s =
 -- ## A batch's beginning and end, and the end of an instruction
 
 abbrev pub fresh : List Counter → State
-fresh counters = record { bindings = λ _. none; live = []; out = []; log = []; counters = counters; changed = false; trace = []; answers = []; status = going }
+fresh counters = record { bindings = λ _. None; live = []; out = []; log = []; counters = counters; changed = false; trace = []; answers = []; status = going }
 
 -- with v = 0 a batch has one lane
 abbrev pub all_live : ℕ → ℕ → List Bool
@@ -82,7 +80,7 @@ all_live zero n = true ∷ []
 all_live (suc v) n = replicate n true
 
 unfoldable pub begin : ℕ → Rule → ℕ → List (List ℕ) → State → State
-begin k r n columns s = note (mask k (all_live r.starts n)) (clear (frame (get_elem? columns) (all_live r.starts n) [] s))
+begin k r n columns s = note (mask k (all_live r.starts n)) (clear (frame (slice_get columns) (all_live r.starts n) [] s))
 
 unfoldable pub end : State → State
 end s = when (is_going s.status) (reply (survivors s.bindings s.live)) s
@@ -106,7 +104,7 @@ module _ (E : Env) where
 
   -- a row begins with its key, if it will have the right length
   abbrev pub row_start : ℕ → List ℕ → List WriteVal → List Counter → Option Built
-  row_start t key vs cs = only (eqb (length key + length vs) (width (table_of t))) (some (built key cs))
+  row_start t key vs cs = only (eqb (length key + length vs) (width (table_of t))) (Some (built key cs))
 
   -- the predicted row of the key, else a new one
   unfoldable pub predict_row : Site → Bindings → ℕ → List ℕ → List WriteVal → State → (Bool → List ℕ → State → State) → State
@@ -158,7 +156,7 @@ module _ (E : Env) where
     body (AssertEq l r) s = lanes (λ i. read_pair (here k j i) l r λ a b. when (not (eqb a b)) (lose i)) s
     body (AssertNe l r) s = lanes (λ i. read_pair (here k j i) l r λ a b. when (eqb a b) (lose i)) s
     body (AssertAnyNe d ops) s = lanes (λ i. assert_any_ne (here k j i) d ops) s
-    body (ReadCounter c dst) s = frame s.bindings s.live (replicate (length s.live) (some (next_of (get_or s.counters c no_counter)))) s
+    body (ReadCounter c dst) s = frame s.bindings s.live (replicate (length s.live) (Some (next_of (get_or s.counters c no_counter)))) s
 
     -- a batch whose lanes are all dead has ended
     unfoldable pub instruction : Instr → State → State
@@ -167,19 +165,19 @@ module _ (E : Env) where
   -- ## Steps
 
   unfoldable pub instructions : ℕ → Rule → ℕ → State → State
-  instructions k r m s = iter (λ j s'. found (get_elem? r.instrs j) (λ ins. instruction k j ins s') (λ _. s')) m s
+  instructions k r m s = iter (λ j s'. found (slice_get r.instrs j) (λ ins. instruction k j ins s') (λ _. s')) m s
 
   unfoldable pub predict : Site → ℕ → List ℕ → List WriteVal → State → State
   predict o t key vs s =
-      need (only (eqb (length key) (table_of t).keys && eqb (length key + length vs) (width (table_of t))) (some key)) s λ _.
+      need (only (eqb (length key) (table_of t).keys && eqb (length key + length vs) (width (table_of t))) (Some key)) s λ _.
       found (find (table_of t).keys (table_of t).rows key)
       (λ r. reply (predicted false r) (note (took o r) s))
-      (λ _. predict_row o (λ _. none) t key vs s λ new r s'. reply (predicted new r) (note (took o r) (note (asks o t key r) (when new change s'))))
+      (λ _. predict_row o (λ _. None) t key vs s λ new r s'. reply (predicted new r) (note (took o r) (note (asks o t key r) (when new change s'))))
 
   unfoldable pub step : ℕ → Step → State → State
   step k (batch r n columns) s = end (instructions k (rule_at E.rules r) (length (rule_at E.rules r).instrs) (begin k (rule_at E.rules r) n columns s))
-  step k (prediction t key vs) s = predict (here k 0 0) t key vs (frame (λ _. none) [] [] s)
+  step k (prediction t key vs) s = predict (here k 0 0) t key vs (frame (λ _. None) [] [] s)
 
   -- the first n steps of a list
   unfoldable pub run : List Counter → List Step → ℕ → State
-  run counters steps n = iter (λ k s. when (is_going s.status) (λ s'. found (get_elem? steps k) (λ st. step k st s') (λ _. s')) s) n (fresh counters)
+  run counters steps n = iter (λ k s. when (is_going s.status) (λ s'. found (slice_get steps k) (λ st. step k st s') (λ _. s')) s) n (fresh counters)

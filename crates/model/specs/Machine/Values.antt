@@ -1,7 +1,5 @@
 -- What entries stand for, which row has a key, and how a row is built.
-use Rattle.std.specs.Prelude.{ℕ, suc, Bool, ◌&&◌, not, List, [], ◌∷◌, ◌++◌, eqb, ltb, length, get_or, take, set}
-use Rattle.std.proofs.Math.Option.{Option, none, some}
-use Rattle.std.proofs.Math.ListN.{get_elem?}
+use Rattle.std.specs.Prelude.{ℕ, suc, Bool, ◌&&◌, not, List, [], ◌∷◌, ◌++◌, eqb, ltb, length, get_or, take, set, Option, None, Some, slice_get}
 use Rattle.model.specs.Basics.{found, only, eq_list, keep_if}
 use Rattle.model.specs.Book.Syntax.{Counter, no_counter, limit, QueryEntry, Var, Const, WriteVal, Entry, IncCounter, CurrentVal}
 use Rattle.model.specs.Machine.State.{Record, Bindings}
@@ -9,28 +7,28 @@ use Rattle.model.specs.Machine.State.{Record, Bindings}
 -- ## Entries
 
 abbrev pub bind : ℕ → List ℕ → Bindings → Bindings
-bind x c b v = found (only (eqb v x) (some c)) some (λ _. b v)
+bind x c b v = found (only (eqb v x) (Some c)) Some (λ _. b v)
 
 -- without x
 abbrev pub hold : ℕ → Bindings → Bindings
 hold x b v = only (not (eqb v x)) (b v)
 
 abbrev pub lane_of : ℕ → Option (List ℕ) → Option ℕ
-lane_of i none = none
-lane_of i (some c) = get_elem? c i
+lane_of i None = None
+lane_of i (Some c) = slice_get c i
 
 -- what an entry stands for in lane i
 abbrev pub value_of : Bindings → ℕ → QueryEntry → Option ℕ
 value_of b i (Var v) = lane_of i (b v)
-value_of b i (Const c) = some c
+value_of b i (Const c) = Some c
 
 abbrev pub cons? : Option ℕ → Option (List ℕ) → Option (List ℕ)
-cons? none o = none
-cons? (some w) none = none
-cons? (some w) (some ws) = some (w ∷ ws)
+cons? None o = None
+cons? (Some w) None = None
+cons? (Some w) (Some ws) = Some (w ∷ ws)
 
 abbrev pub values_of : Bindings → ℕ → List QueryEntry → Option (List ℕ)
-values_of b i [] = some []
+values_of b i [] = Some []
 values_of b i (e ∷ es) = cons? (value_of b i e) (values_of b i es)
 
 -- a list that must have n entries
@@ -41,8 +39,8 @@ list_of b i n es = only (eqb (length es) n) (values_of b i es)
 
 -- the committed row that has the key
 abbrev pub find : ℕ → List (List ℕ) → List ℕ → Option (List ℕ)
-find k [] key = none
-find k (r ∷ rs) key = found (only (eq_list (take k r) key) (some r)) some (λ _. find k rs key)
+find k [] key = None
+find k (r ∷ rs) key = found (only (eq_list (take k r) key) (Some r)) Some (λ _. find k rs key)
 
 -- the predicted rows of a table that have the key
 abbrev pub is_row : ℕ → ℕ → List ℕ → Record → Bool
@@ -59,23 +57,23 @@ pub data Built : Type 0 where
   built : (row : List ℕ) (counters : List Counter) → Built
 
 abbrev pub push : List ℕ → List Counter → Option ℕ → Built
-push row cs none = is_stuck
-push row cs (some w) = built (row ++ (w ∷ [])) cs
+push row cs None = is_stuck
+push row cs (Some w) = built (row ++ (w ∷ [])) cs
 
 -- the number that a counter gives, and the counter with the number above it, which must not pass the limit
 abbrev pub draw : Counter → Option (ℕ × Counter)
-draw n = only (ltb n limit) (some (n, suc n))
+draw n = only (ltb n limit) (Some (n, suc n))
 
 abbrev pub hand_out : List ℕ → List Counter → ℕ → Option (ℕ × Counter) → Built
-hand_out row cs c none = is_spent
-hand_out row cs c (some p) = built (row ++ (p.0 ∷ [])) (set cs c p.1)
+hand_out row cs c None = is_spent
+hand_out row cs c (Some p) = built (row ++ (p.0 ∷ [])) (set cs c p.1)
 
 abbrev pub write : Bindings → ℕ → WriteVal → Built → Built
 write b i v is_stuck = is_stuck
 write b i v is_spent = is_spent
 write b i (Entry e) (built row cs) = push row cs (value_of b i e)
 write b i (IncCounter c) (built row cs) = hand_out row cs c (draw (get_or cs c no_counter))
-write b i (CurrentVal x) (built row cs) = push row cs (get_elem? row x)
+write b i (CurrentVal x) (built row cs) = push row cs (slice_get row x)
 
 abbrev pub build : Bindings → ℕ → List WriteVal → Built → Built
 build b i [] r = r

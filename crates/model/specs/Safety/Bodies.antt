@@ -1,10 +1,9 @@
 -- Each instruction without a lookup keeps the invariant, and gives a dst to each lane that stays live. The lookups stand in `proofs/Safety`.
 use Prim.Native.Nat.{ℕ, zero, suc, ◌<◌}
 use Rattle.std.proofs.Common.{arith, sym, ◌∙◌}
-use Rattle.std.specs.Prelude.{◌≡◌, Bool, List, [], ◌∷◌, T, get_or, replicate}
+use Rattle.std.specs.Prelude.{◌≡◌, Bool, List, [], ◌∷◌, T, get_or, replicate, Option, None, Some}
 use Rattle.std.proofs.Math.Path.{refl, subst}
 use Rattle.std.proofs.Math.Bool.{not}
-use Rattle.std.proofs.Math.Option.{Option, none, some}
 use Rattle.std.proofs.Math.Dec.{eqb}
 use Rattle.std.proofs.Math.ListN.{length, length-replicate, get_or-replicate}
 use Rattle.model.specs.Basics.{when, All}
@@ -20,21 +19,21 @@ use Rattle.model.specs.Safety.Inv.{Inv, weaken}
 use Rattle.model.specs.Safety.Lanes.{Same, Lane, Done, Settled, wait_lane, lose_done, live_below, call_ok, two_ok, any_ok, insert_ok}
 use Rattle.model.specs.Safety.Passes.{lane_trans, lanes_quiet, lanes_done, missed_done, lanes_stage, Filling}
 
-some_below : (xs : List (Option ℕ)) (i : ℕ) {w : ℕ} → get_or xs i none ≡ some w → i < length xs
+some_below : (xs : List (Option ℕ)) (i : ℕ) {w : ℕ} → get_or xs i None ≡ Some w → i < length xs
 some_below [] i e = absurd (none_some e)
 some_below (x ∷ xs) zero e = omega arith
 some_below (x ∷ xs) (suc i) e = let h = some_below xs i e in omega arith
 
-of_replicate : (n i a w : ℕ) → get_or (replicate n (some a)) i none ≡ some w → a ≡ w
+of_replicate : (n i a w : ℕ) → get_or (replicate n (Some a)) i None ≡ Some w → a ≡ w
 of_replicate zero i a w e = absurd (none_some e)
 of_replicate (suc n) zero a w e = cc
 of_replicate (suc n) (suc i) a w e = of_replicate n i a w e
 
 -- what an instruction leaves: if it has a dst, each live lane has one
 abbrev pub Filled : Instr → State → Type 0
-Filled ins s = (d : ℕ) → dst_of ins ≡ some d → (x : ℕ) → Settled x s
+Filled ins s = (d : ℕ) → dst_of ins ≡ Some d → (x : ℕ) → Settled x s
 
-module _ (E : Env) (tok : All TableOk E.tables) (fn : (o : Site) (c f : ℕ) (args : List ℕ) (w : ℕ) → All Clean args → E.answer o c f args ≡ some w → Clean w)
+module _ (E : Env) (tok : All TableOk E.tables) (fn : (o : Site) (c f : ℕ) (args : List ℕ) (w : ℕ) → All Clean args → E.answer o c f args ≡ Some w → Clean w)
     (K : ℕ → Type 0) (k j : ℕ) where
   abbrev pub BodyOk : Instr → State → State → Type 0
   BodyOk ins s s' = (q : ℕ) × Lane E K k j q s s' × Filled ins s'
@@ -43,7 +42,7 @@ module _ (E : Env) (tok : All TableOk E.tables) (fn : (o : Site) (c f : ℕ) (ar
   filled ins q s s' h = (q, h.0, λ d e. h.1)
 
   -- without a dst
-  plainly : (ins : Instr) (q : ℕ) (s s' : State) → dst_of ins ≡ none → Lane E K k j q s s' → BodyOk ins s s'
+  plainly : (ins : Instr) (q : ℕ) (s s' : State) → dst_of ins ≡ None → Lane E K k j q s s' → BodyOk ins s s'
   plainly ins q s s' e h = (q, h, λ d e'. absurd (none_some (sym e ∙ e')))
 
   pub then_missed : (q : ℕ) (s s' s'' : State) → Lane E K k j 0 s s' → Filling E K k j q s' s'' → Filling E K k j q s s''
@@ -133,14 +132,14 @@ module _ (E : Env) (tok : All TableOk E.tables) (fn : (o : Site) (c f : ℕ) (ar
               unstuck = v.unstuck;
               readable = v.readable;
               clean_out = λ i a e. subst Clean (of_replicate n i w a e) cw;
-              out_size = length-replicate n (some w);
+              out_size = length-replicate n (Some w);
               counted = v.counted;
               logs = v.logs;
               events = v.events;
             };
             fewer = λ i t. t;
-            kept = λ i h. (w, get_or-replicate n i (some w) none (omega (arith, some_below s.out i h.1, v.out_size)));
+            kept = λ i h. (w, get_or-replicate n i (Some w) None (omega (arith, some_below s.out i h.1, v.out_size)));
             size = refl;
           },
-          λ d e i g t. (w, get_or-replicate n i (some w) none (live_below s.live i t)),
+          λ d e i g t. (w, get_or-replicate n i (Some w) None (live_below s.live i t)),
         )

@@ -1,6 +1,5 @@
 -- What demand 3 supposes, and the exactness of the check, for books.
-use Rattle.std.specs.Prelude.{ℕ, ◌<◌, ◌≡◌, Bool, List, length, get_or}
-use Rattle.std.proofs.Math.Option.{none}
+use Rattle.std.specs.Prelude.{ℕ, ◌<◌, ◌≡◌, Bool, List, length, get_or, None}
 use Rattle.model.specs.Basics.{All}
 use Rattle.model.specs.Book.Words.{Byte, words_of, bytes_refusal}
 use Rattle.model.specs.Book.Contents.{contents_refusal, rule_count}
@@ -26,27 +25,27 @@ check_exact w r = (
 )
 
 -- a book that draws none of refusals 1 to 11
-module _ (book : List ℕ) (bytes : All Byte book) (unrefused : book_refusal book ≡ none) where
+module _ (book : List ℕ) (bytes : All Byte book) (unrefused : book_refusal book ≡ None) where
   abbrev w : List ℕ
   w = words_of book
 
-  no_words : words_refusal w ≡ none
+  no_words : words_refusal w ≡ None
   unfolding book_refusal
   no_words = (else_none (bytes_refusal book) _ unrefused).1
 
-  pub no_contents : contents_refusal w ≡ none
+  pub no_contents : contents_refusal w ≡ None
   unfolding words_refusal
   no_contents = (else_none (contents_refusal w) _ no_words).0
 
-  pub no_bodies : bodies_refusal w ≡ none
+  pub no_bodies : bodies_refusal w ≡ None
   unfolding words_refusal
   no_bodies = (else_none (bodies_refusal w) _ (else_none (contents_refusal w) _ no_words).1).0
 
-  pub no_rules : rules_refusal w ≡ none
+  pub no_rules : rules_refusal w ≡ None
   unfolding words_refusal
   no_rules = (else_none (rules_refusal w) _ (else_none (bodies_refusal w) _ (else_none (contents_refusal w) _ no_words).1).1).0
 
-  pub no_steps : steps_refusal w ≡ none
+  pub no_steps : steps_refusal w ≡ None
   unfolding words_refusal
   no_steps = (else_none (rules_refusal w) _ (else_none (bodies_refusal w) _ (else_none (contents_refusal w) _ no_words).1).1).1
 

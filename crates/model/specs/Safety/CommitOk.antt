@@ -1,9 +1,8 @@
 -- A commit leaves tables as a book must have them: rows of the right length, clean, with distinct keys.
-use Rattle.std.specs.Prelude.{ℕ, zero, suc, ◌+◌, ◌<◌, min, max, ◌≡◌, refl, ◌≢◌, Bool, true, false, not, cond, T, eqb, length, take, drop}
+use Rattle.std.specs.Prelude.{ℕ, zero, suc, ◌+◌, ◌<◌, min, max, ◌≡◌, refl, ◌≢◌, Bool, true, false, not, cond, T, eqb, length, take, drop, slice_get}
 use Rattle.std.proofs.Common.{add-zero, add-suc, suc-add, arith, ◌∙◌, subst, eqb→eq, length-append, take-append-drop, length-take-le, take_at}
 use Rattle.std.proofs.Math.Path.{sym, ap}
 use mathlib.Core.List.{List, [], ◌∷◌, ◌++◌}
-use Rattle.std.proofs.Math.ListN.{get_elem?}
 use Rattle.model.specs.Basics.{when, eq_list, keep_if, All, AllPairs}
 use Rattle.model.specs.Book.Syntax.{Clean, Table, width, table_at}
 use Rattle.model.specs.Machine.State.{Record, record_size}
@@ -108,14 +107,14 @@ module _ (T₀ : Table) where
     removals_ok zero rows h = h
     removals_ok (suc n) rows h =
         let p : RowsOk (removals log t T₀ n rows) = removals_ok n rows h in
-        found_ind RowsOk (get_elem? log n) (λ r. when (removal t r) (without k r.words) (removals log t T₀ n rows)) (λ _. removals log t T₀ n rows)
+        found_ind RowsOk (slice_get log n) (λ r. when (removal t r) (without k r.words) (removals log t T₀ n rows)) (λ _. removals log t T₀ n rows)
         (λ r e. when_ind RowsOk (removal t r) (without k r.words) (removals log t T₀ n rows) (λ _. without_ok r.words _ p) p) (λ _. p)
 
     insertions_ok : (n : ℕ) (rows : List (List ℕ)) → RowsOk rows → RowsOk (insertions log t T₀ n rows)
     insertions_ok zero rows h = h
     insertions_ok (suc n) rows h =
         let p : RowsOk (insertions log t T₀ n rows) = insertions_ok n rows h in
-        found_ind RowsOk (get_elem? log n) (λ r. when (insertion t r) (put k T₀.merge r.words) (insertions log t T₀ n rows)) (λ _. insertions log t T₀ n rows)
+        found_ind RowsOk (slice_get log n) (λ r. when (insertion t r) (put k T₀.merge r.words) (insertions log t T₀ n rows)) (λ _. insertions log t T₀ n rows)
         (λ r e. when_ind RowsOk (insertion t r) (put k T₀.merge r.words) (insertions log t T₀ n rows)
         (λ i. let q = All-at (λ x. T (insertion t x) → (length x.words ≡ width T₀) × All Clean x.words) log n fits e i in put_ok r.words q.0 q.1 _ p) p) (λ _. p)
 

@@ -1,7 +1,6 @@
 -- The invariant of a run, and how each change of the state keeps it.
-use Rattle.std.specs.Prelude.{ℕ, zero, suc, ◌≤◌, ◌<◌, ◌≡◌, ◌⊎◌, ◌≢◌, Bool, false, List, [], ◌∷◌, ◌++◌, T, length, get_or, set}
+use Rattle.std.specs.Prelude.{ℕ, zero, suc, ◌≤◌, ◌<◌, ◌≡◌, ◌⊎◌, ◌≢◌, Bool, false, List, [], ◌∷◌, ◌++◌, T, length, get_or, set, Option, None, Some}
 use Rattle.std.proofs.Common.{arith, sym, ap, ◌∙◌, subst, inl, inr, length-set}
-use Rattle.std.proofs.Math.Option.{Option, none, some}
 use Rattle.model.specs.Basics.{All, AllPairs}
 use Rattle.model.specs.Book.Syntax.{Clean, Counter, table_at}
 use Rattle.model.specs.Machine.State.{State, Site, Record, record_size, Event, mask, reads, took, asks, Status, stuck, is_going, Bindings, Env, stop, note, give, lose, with_counters, logged}
@@ -44,7 +43,7 @@ earlier_other k j i q r e (inr (a, inr h)) d = omega (arith, h.1, ap (λ s. s.la
 
 -- what has a dst is clean
 abbrev pub CleanOut : List (Option ℕ) → Type 0
-CleanOut out = (i w : ℕ) → get_or out i none ≡ some w → Clean w
+CleanOut out = (i w : ℕ) → get_or out i None ≡ Some w → Clean w
 
 pub set_within : (l : List Bool) (x : ℕ) → Within (set l x false) l
 set_within [] x i t = t
@@ -53,7 +52,7 @@ set_within (b ∷ l) zero (suc i) t = t
 set_within (b ∷ l) (suc x) zero t = t
 set_within (b ∷ l) (suc x) (suc i) t = set_within l x i t
 
-pub set_get : (xs : List (Option ℕ)) (x w i w' : ℕ) → get_or (set xs x (some w)) i none ≡ some w' → (w ≡ w') ⊎ (get_or xs i none ≡ some w')
+pub set_get : (xs : List (Option ℕ)) (x w i w' : ℕ) → get_or (set xs x (Some w)) i None ≡ Some w' → (w ≡ w') ⊎ (get_or xs i None ≡ Some w')
 set_get [] x w i w' e = inr e
 set_get (o ∷ xs) zero w zero w' e = inl (some_inj e)
 set_get (o ∷ xs) zero w (suc i) w' e = inr e
@@ -126,7 +125,7 @@ module _ (E : Env) where
     counters_inv cs c = record { unstuck = v.unstuck; readable = v.readable; clean_out = v.clean_out; out_size = v.out_size; counted = c; logs = v.logs; events = v.events }
 
     pub give_inv : (x w : ℕ) → Clean w → Inv K k j i (give x w s)
-    give_inv x w c = record { unstuck = v.unstuck; readable = v.readable; clean_out = λ y w' e. either (λ q. subst Clean q c) (λ q. v.clean_out y w' q) (set_get s.out x w y w' e); out_size = length-set s.out x (some w) ∙ v.out_size; counted = v.counted; logs = v.logs; events = v.events }
+    give_inv x w c = record { unstuck = v.unstuck; readable = v.readable; clean_out = λ y w' e. either (λ q. subst Clean q c) (λ q. v.clean_out y w' q) (set_get s.out x w y w' e); out_size = length-set s.out x (Some w) ∙ v.out_size; counted = v.counted; logs = v.logs; events = v.events }
 
     pub lose_inv : (x : ℕ) → Inv K k j i (lose x s)
     lose_inv x = record { unstuck = v.unstuck; readable = λ g a b h t. v.readable g a b h (set_within s.live x b t); clean_out = v.clean_out; out_size = v.out_size ∙ sym (length-set s.live x false); counted = v.counted; logs = v.logs; events = v.events }

@@ -1,13 +1,12 @@
 -- What a live lane does keeps the invariant, drops no other lane and takes no dst back.
 use Prim.Native.Nat.{ℕ, zero, suc, ◌+◌, ◌≤◌, ◌<◌}
 use Rattle.std.proofs.Common.{arith, ap, ◌∙◌, eqb→eq, le→leb, length-set, get_or-set_same, take_at}
-use Rattle.std.specs.Prelude.{◌≡◌, ◌≢◌, Bool, true, ◌&&◌, not, leb, get_or, set, take, drop}
+use Rattle.std.specs.Prelude.{◌≡◌, ◌≢◌, Bool, true, ◌&&◌, not, leb, get_or, set, take, drop, Option, None, Some, slice_get}
 use Rattle.std.proofs.Math.Path.{refl, sym, subst}
 use Rattle.std.proofs.Math.Bool.{false}
-use Rattle.std.proofs.Math.Option.{Option, none, some}
 use mathlib.Core.List.{List, [], ◌∷◌, ◌++◌}
 use Rattle.std.proofs.Math.Dec.{T, eqb, eqb_refl}
-use Rattle.std.proofs.Math.ListN.{length, get_elem?}
+use Rattle.std.proofs.Math.ListN.{length}
 use Rattle.model.specs.Basics.{first, keep_if, All}
 use Rattle.model.specs.Book.Syntax.{Clean, QueryEntry, WriteVal, width, table_at}
 use Rattle.model.specs.Machine.State.{State, Record, record_size, reads, took, stuck, spent, full, is_going, Bindings, Env, stop, note, give, lose, with_counters, change, logged, need, log_words}
@@ -34,23 +33,23 @@ lost [] i t = t
 lost (b ∷ l) zero t = t
 lost (b ∷ l) (suc i) t = lost l i t
 
-still_some : (xs : List (Option ℕ)) (x w i a : ℕ) → get_or xs i none ≡ some a → (b : ℕ) × (get_or (set xs x (some w)) i none ≡ some b)
+still_some : (xs : List (Option ℕ)) (x w i a : ℕ) → get_or xs i None ≡ Some a → (b : ℕ) × (get_or (set xs x (Some w)) i None ≡ Some b)
 still_some [] x w i a e = (a, e)
 still_some (o ∷ xs) zero w zero a e = (w, refl)
 still_some (o ∷ xs) zero w (suc i) a e = (a, e)
 still_some (o ∷ xs) (suc x) w zero a e = (a, e)
 still_some (o ∷ xs) (suc x) w (suc i) a e = still_some xs x w i a e
 
-pub first_none : {A : Type 0} (xs : List A) → first xs ≡ none → xs ≡ []
+pub first_none : {A : Type 0} (xs : List A) → first xs ≡ None → xs ≡ []
 first_none [] e = refl
 first_none (x ∷ xs) e = absurd (none_some (sym e))
 
-first_single : {A : Type 0} (xs : List A) (r : A) → length xs ≤ 1 → first xs ≡ some r → xs ≡ r ∷ []
+first_single : {A : Type 0} (xs : List A) (r : A) → length xs ≤ 1 → first xs ≡ Some r → xs ≡ r ∷ []
 first_single [] r h e = absurd (none_some e)
 first_single (x ∷ []) r h e = ap (λ y. y ∷ []) (some_inj e)
 first_single (x ∷ y ∷ xs) r h e = absurd (omega arith)
 
-pub need_some : {A : Type 0} (P : State → Type 0) (o : Option A) (s : State) (k : A → State) (a : A) → o ≡ some a → P (k a) → P (need o s k)
+pub need_some : {A : Type 0} (P : State → Type 0) (o : Option A) (s : State) (k : A → State) (a : A) → o ≡ Some a → P (k a) → P (need o s k)
 need_some P o s k a e p = rw e p
 
 spent≢stuck : spent ≢ stuck
@@ -74,7 +73,7 @@ pub record Same (s s' : State) : Type 0 where
   pub out : s'.out ≡ s.out
 
 abbrev pub HasDst : State → ℕ → Type 0
-HasDst s i = (w : ℕ) × (get_or s.out i none ≡ some w)
+HasDst s i = (w : ℕ) × (get_or s.out i None ≡ Some w)
 
 -- a lane that is live has its dst
 abbrev pub Settled : ℕ → State → Type 0
@@ -116,7 +115,7 @@ module _ (E : Env) (K : ℕ → Type 0) (k j : ℕ) where
         kept = λ x h. still_some s'.out i w x h.0 (rw m.out h.1);
         size = ap length m.live;
       },
-      λ g t. (w, get_or-set_same s'.out i (some w) none (omega (arith, live_below s'.live i t, v.out_size))),
+      λ g t. (w, get_or-set_same s'.out i (Some w) None (omega (arith, live_below s'.live i t, v.out_size))),
     )
 
   -- ## Lookups and calls
@@ -137,7 +136,7 @@ module _ (E : Env) (K : ℕ → Type 0) (k j : ℕ) where
       unfolding take_column
       take_ok col r s' v' m c lt =
           let p = cell r col c lt in
-          need_some (Done q i s) (get_elem? r col) s' (λ w. give i w (note (took (here k j i) r) s')) p.0 p.1
+          need_some (Done q i s) (slice_get r col) s' (λ w. give i w (note (took (here k j i) r) s')) p.0 p.1
           (give_done q s (note (took (here k j i) r) s') (took_inv E K k j q s' v' (here k j i) r c) (record { live = m.live; out = m.out }) i p.0 p.2)
 
       pub look_ok : (P : State → Type 0) (t : ℕ) (args : List QueryEntry) (col : ℕ) (miss : State → State)
@@ -157,7 +156,7 @@ module _ (E : Env) (K : ℕ → Type 0) (k j : ℕ) where
 
       pub call_ok : (P : State → Type 0) (K' : ℕ → Type 0) (held : Bindings → Bindings) (c f : ℕ) (args : List QueryEntry) (miss : State → State)
           → Readable K' (held s.bindings) s.live → length args ≡ E.arity f → All (IsKnown K') args → All CleanConst args
-          → ((ws : List ℕ) (w : ℕ) → All Clean ws → E.answer (here k j i) c f ws ≡ some w → Clean w)
+          → ((ws : List ℕ) (w : ℕ) → All Clean ws → E.answer (here k j i) c f ws ≡ Some w → Clean w)
           → ((s' : State) → Done q i s s' → P s') → Then (λ s'. P (miss s'))
           → P (invoke E (here k j i) c held f args miss s)
       unfolding invoke

@@ -1,7 +1,6 @@
 -- A pass over the lanes keeps what each turn keeps, and settles what each turn settles.
-use Rattle.std.specs.Prelude.{ℕ, zero, suc, ◌<◌, ◌≡◌, refl, Bool, true, false, ◌&&◌, not, length, get_or}
+use Rattle.std.specs.Prelude.{ℕ, zero, suc, ◌<◌, ◌≡◌, refl, Bool, true, false, ◌&&◌, not, length, get_or, Option, None, Some}
 use Rattle.std.proofs.Common.{not-suc-le-zero, arith, sym, ◌∙◌, subst, T_not}
-use Rattle.std.proofs.Math.Option.{Option, none, some}
 use Rattle.std.proofs.Math.Dec.{T}
 use Rattle.model.specs.Basics.{iter, when}
 use Rattle.model.specs.Machine.State.{State, is_going, Env}
@@ -46,17 +45,17 @@ module _ (E : Env) (K : ℕ → Type 0) (k j : ℕ) where
   -- ## The read_pair passes
 
   abbrev is_missed : State → ℕ → Bool
-  is_missed s i = is_live s i && is_none (get_or s.out i none)
+  is_missed s i = is_live s i && is_none (get_or s.out i None)
 
   not_live : (i : ℕ) (s : State) → T (not (is_live s i)) → Settled i s
   not_live i s t g l = absurd (T_not (is_live s i) t (T_and (is_going s.status) (get_or s.live i false) g l))
 
-  has : (o : Option ℕ) → T (not (is_none o)) → (w : ℕ) × (o ≡ some w)
-  has none t = absurd t
-  has (some w) t = (w, refl)
+  has : (o : Option ℕ) → T (not (is_none o)) → (w : ℕ) × (o ≡ Some w)
+  has None t = absurd t
+  has (Some w) t = (w, refl)
 
   not_missed : (i : ℕ) (s : State) → T (not (is_missed s i)) → Settled i s
-  not_missed i s t g l = has (get_or s.out i none) (second (is_live s i) (is_none (get_or s.out i none)) (T_and (is_going s.status) (get_or s.live i false) g l) t)
+  not_missed i s t g l = has (get_or s.out i None) (second (is_live s i) (is_none (get_or s.out i None)) (T_and (is_going s.status) (get_or s.live i false) g l) t)
     where
       second : (a c : Bool) → T a → T (not (a && c)) → T (not c)
       second true c p q = q
@@ -66,7 +65,7 @@ module _ (E : Env) (K : ℕ → Type 0) (k j : ℕ) where
   parts s i t = and_T (is_going s.status) (get_or s.live i false) t
 
   missed_live : (s : State) (i : ℕ) → T (is_missed s i) → T (is_live s i)
-  missed_live s i t = (and_T (is_live s i) (is_none (get_or s.out i none)) t).0
+  missed_live s i t = (and_T (is_live s i) (is_none (get_or s.out i None)) t).0
 
   -- with no record staged
   pub lanes_quiet : (f : ℕ → State → State) → ((i : ℕ) (s : State) → Inv E K k j 0 s → T (is_going s.status) → T (get_or s.live i false) → Lane E K k j 0 s (f i s))

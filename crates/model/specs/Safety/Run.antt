@@ -2,12 +2,11 @@
 use Prim.Native.Nat.{ℕ, zero, suc, ◌<◌}
 use Rattle.std.proofs.Common.{not-suc-le-zero, ap, ◌∙◌, inl, inr, T_not}
 use native.Mathlib.Omega.{arith}
-use Rattle.std.specs.Prelude.{◌≡◌, refl, ◌⊎◌, ◌≢◌, Bool, true, false, not, get_or, replicate}
+use Rattle.std.specs.Prelude.{◌≡◌, refl, ◌⊎◌, ◌≢◌, Bool, true, false, not, get_or, replicate, Option, None, Some, slice_get}
 use Rattle.std.proofs.Math.Path.{sym, subst}
-use Rattle.std.proofs.Math.Option.{Option, none, some}
 use mathlib.Core.List.{List, [], ◌∷◌, map}
 use Rattle.std.proofs.Math.Dec.{T, eqb, eqb_refl}
-use Rattle.std.proofs.Math.ListN.{length, get_elem?}
+use Rattle.std.proofs.Math.ListN.{length}
 use Rattle.std.proofs.lemmas.List.{length-replicate}
 use Rattle.model.specs.Basics.{when, found, only, All}
 use Rattle.model.specs.Book.Syntax.{Clean, Counter, Var, Const, WriteVal, Entry, IncCounter, CurrentVal, Instr, dst_of, Rule, rule_at}
@@ -29,23 +28,23 @@ any_live_lem [] i t = t
 any_live_lem (b ∷ l) zero t = or_l b (any_live l) t
 any_live_lem (b ∷ l) (suc i) t = or_r b (any_live l) (any_live_lem l i t)
 
-none_replicate : (n i w : ℕ) → get_or (replicate {A = Option ℕ} n none) i none ≡ some w → ⊥
+none_replicate : (n i w : ℕ) → get_or (replicate {A = Option ℕ} n None) i None ≡ Some w → ⊥
 none_replicate zero i w e = none_some e
 none_replicate (suc n) zero w e = none_some e
 none_replicate (suc n) (suc i) w e = none_replicate n i w e
 
-pub out_column : (out : List (Option ℕ)) (i w : ℕ) → get_or out i none ≡ some w → get_elem? (map or_stale out) i ≡ some w
+pub out_column : (out : List (Option ℕ)) (i w : ℕ) → get_or out i None ≡ Some w → slice_get (map or_stale out) i ≡ Some w
 out_column [] i w e = absurd (none_some e)
-out_column (o ∷ out) zero w e = ap (λ x. some (or_stale x)) e
+out_column (o ∷ out) zero w e = ap (λ x. Some (or_stale x)) e
 out_column (o ∷ out) (suc i) w e = out_column out i w e
 
-pub bind_same : (d : ℕ) (c : List ℕ) (b : Bindings) (v : ℕ) → T (eqb v d) → bind d c b v ≡ some c
-bind_same d c b v t = ap (λ o. found o some (λ _. b v)) (only_T (eqb v d) (some c) t)
+pub bind_same : (d : ℕ) (c : List ℕ) (b : Bindings) (v : ℕ) → T (eqb v d) → bind d c b v ≡ Some c
+bind_same d c b v t = ap (λ o. found o Some (λ _. b v)) (only_T (eqb v d) (Some c) t)
 
 bind_other : (d : ℕ) (c : List ℕ) (b : Bindings) (v : ℕ) → T (not (eqb v d)) → bind d c b v ≡ b v
 bind_other d c b v t = go (eqb v d) t
   where
-    go : (x : Bool) → T (not x) → found (only x (some c)) some (λ _. b v) ≡ b v
+    go : (x : Bool) → T (not x) → found (only x (Some c)) Some (λ _. b v) ≡ b v
     go true p = absurd p
     go false p = refl
 
@@ -56,36 +55,36 @@ module _ (E : Env) where
     advance K' rd = record { unstuck = v.unstuck; readable = rd; clean_out = v.clean_out; out_size = v.out_size; counted = v.counted; logs = moved E k j q k (suc j) 0 s.log (next_instr k j q) v.logs; events = v.events }
 
     pub clear_inv : Inv E K k j q (clear s)
-    clear_inv = record { unstuck = v.unstuck; readable = v.readable; clean_out = λ i w e. absurd (none_replicate (length s.live) i w e); out_size = length-replicate (length s.live) none; counted = v.counted; logs = v.logs; events = v.events }
+    clear_inv = record { unstuck = v.unstuck; readable = v.readable; clean_out = λ i w e. absurd (none_replicate (length s.live) i w e); out_size = length-replicate (length s.live) None; counted = v.counted; logs = v.logs; events = v.events }
 
     -- dst is bound
     abbrev pub Grown : Option ℕ → ℕ → Type 0
-    Grown o x = K x ⊎ (o ≡ some x)
+    Grown o x = K x ⊎ (o ≡ Some x)
 
-    grown_read : (d : ℕ) → ((x : ℕ) → Settled x s) → T (is_going s.status) → Readable (Grown (some d)) (bind d (map or_stale s.out) s.bindings) s.live
+    grown_read : (d : ℕ) → ((x : ℕ) → Settled x s) → T (is_going s.status) → Readable (Grown (Some d)) (bind d (map or_stale s.out) s.bindings) s.live
     grown_read d st g x i kx l = either here_read there_read (T-cases (eqb x d))
       where
-        here_read : T (eqb x d) → (w : ℕ) × (lane_of i (bind d (map or_stale s.out) s.bindings x) ≡ some w) × Clean w
+        here_read : T (eqb x d) → (w : ℕ) × (lane_of i (bind d (map or_stale s.out) s.bindings x) ≡ Some w) × Clean w
         here_read t =
             let h = st i g l in
             (h.0, ap (lane_of i) (bind_same d (map or_stale s.out) s.bindings x t) ∙ out_column s.out i h.0 h.1, v.clean_out i h.0 h.1)
 
-        old : K x ⊎ (some d ≡ some x) → T (not (eqb x d)) → K x
+        old : K x ⊎ (Some d ≡ Some x) → T (not (eqb x d)) → K x
         old (inl p) t = p
         old (inr e) t = absurd (T_not (eqb x d) t (subst (λ y. T (eqb x y)) (sym (some_inj e)) (eqb_refl x)))
 
-        there_read : T (not (eqb x d)) → (w : ℕ) × (lane_of i (bind d (map or_stale s.out) s.bindings x) ≡ some w) × Clean w
+        there_read : T (not (eqb x d)) → (w : ℕ) × (lane_of i (bind d (map or_stale s.out) s.bindings x) ≡ Some w) × Clean w
         there_read t =
             let h = v.readable g x i (old kx t) l in
             (h.0, ap (lane_of i) (bind_other d (map or_stale s.out) s.bindings x t) ∙ h.1, h.2)
 
-    pub bound_ok : (o : Option ℕ) → T (is_going s.status) → ((d : ℕ) → o ≡ some d → (x : ℕ) → Settled x s) → Inv E (Grown o) k (suc j) 0 (bind_out o s)
-    bound_ok none g st = advance (Grown none) (λ g' x i kx l. v.readable g' x i (old kx) l)
+    pub bound_ok : (o : Option ℕ) → T (is_going s.status) → ((d : ℕ) → o ≡ Some d → (x : ℕ) → Settled x s) → Inv E (Grown o) k (suc j) 0 (bind_out o s)
+    bound_ok None g st = advance (Grown None) (λ g' x i kx l. v.readable g' x i (old kx) l)
       where
-        old : {x : ℕ} → K x ⊎ (none ≡ some x) → K x
+        old : {x : ℕ} → K x ⊎ (None ≡ Some x) → K x
         old (inl p) = p
         old (inr e) = absurd (none_some e)
-    bound_ok (some d) g st = record { unstuck = v.unstuck; readable = grown_read d (st d refl); clean_out = v.clean_out; out_size = v.out_size; counted = v.counted; logs = moved E k j q k (suc j) 0 s.log (next_instr k j q) v.logs; events = v.events }
+    bound_ok (Some d) g st = record { unstuck = v.unstuck; readable = grown_read d (st d refl); clean_out = v.clean_out; out_size = v.out_size; counted = v.counted; logs = moved E k j q k (suc j) 0 s.log (next_instr k j q) v.logs; events = v.events }
 
   -- ## Between steps: nothing of the lanes
 
@@ -104,22 +103,22 @@ module _ (E : Env) where
   leave K k j q s v = record { unstuck = v.unstuck; counted = v.counted; logs = moved E k j q (suc k) 0 0 s.log (next_step k j q) v.logs; clean = v.events.clean; one_row = v.events.one_row }
 
   pub enter : (K : ℕ → Type 0) (k : ℕ) (s : State) (b : Bindings) (l : List Bool) → Between k s → Readable K b l → Inv E K k 0 0 (clear (frame b l [] s))
-  enter K k s b l v rd = record { unstuck = v.unstuck; readable = λ g. rd; clean_out = λ i w e. absurd (none_replicate (length l) i w e); out_size = length-replicate (length l) none; counted = v.counted; logs = v.logs; events = record { clean = v.clean; one_row = v.one_row } }
+  enter K k s b l v rd = record { unstuck = v.unstuck; readable = λ g. rd; clean_out = λ i w e. absurd (none_replicate (length l) i w e); out_size = length-replicate (length l) None; counted = v.counted; logs = v.logs; events = record { clean = v.clean; one_row = v.one_row } }
 
   pub later : (k : ℕ) (s : State) → Between k s → Between (suc k) s
   later k s v = record { unstuck = v.unstuck; counted = v.counted; logs = moved E k 0 0 (suc k) 0 0 s.log (next_step k 0 0) v.logs; clean = v.clean; one_row = v.one_row }
 
-  module _ (tok : All TableOk E.tables) (fn : (o : Site) (c f : ℕ) (args : List ℕ) (w : ℕ) → All Clean args → E.answer o c f args ≡ some w → Clean w) where
+  module _ (tok : All TableOk E.tables) (fn : (o : Site) (c f : ℕ) (args : List ℕ) (w : ℕ) → All Clean args → E.answer o c f args ≡ Some w → Clean w) where
     -- ## A batch
 
     pub more : (K K' : ℕ → Type 0) (k j q : ℕ) (s : State) → ((x : ℕ) → K' x → K x) → Inv E K k j q s → Inv E K' k j q s
     more K K' k j q s h v = record { unstuck = v.unstuck; readable = λ g x i kx l. v.readable g x i (h x kx) l; clean_out = v.clean_out; out_size = v.out_size; counted = v.counted; logs = v.logs; events = v.events }
 
-    pub grown : (r : Rule) (j : ℕ) (ins : Instr) → get_elem? r.instrs j ≡ some ins → (x : ℕ) → Known r (suc j) x → Known r j x ⊎ (dst_of ins ≡ some x)
-    grown r j ins e x h = either inl (λ p. inr (subst (λ y. dst_of y ≡ some x) (some_inj (sym p.1 ∙ e)) p.2)) (known_cases r j x h)
+    pub grown : (r : Rule) (j : ℕ) (ins : Instr) → slice_get r.instrs j ≡ Some ins → (x : ℕ) → Known r (suc j) x → Known r j x ⊎ (dst_of ins ≡ Some x)
+    grown r j ins e x h = either inl (λ p. inr (subst (λ y. dst_of y ≡ Some x) (some_inj (sym p.1 ∙ e)) p.2)) (known_cases r j x h)
 
     -- past the last instruction nothing more is bound
-    pub over_end : (r : Rule) (j : ℕ) → get_elem? r.instrs j ≡ none → (x : ℕ) → Known r (suc j) x → Known r j x
+    pub over_end : (r : Rule) (j : ℕ) → slice_get r.instrs j ≡ None → (x : ℕ) → Known r (suc j) x → Known r j x
     over_end r j e x h = either (λ p. p) (λ p. absurd (none_some (sym e ∙ p.1))) (known_cases r j x h)
 
     live_lane : (v n i x : ℕ) → x < v → T (get_or (all_live v n) i false) → i < n
@@ -132,7 +131,7 @@ module _ (E : Env) where
         below (suc m) (suc y) t' = let h' = below m y t' in omega arith
 
     start_read : (r : Rule) (n : ℕ) (columns : List (List ℕ)) → length columns ≡ r.starts → All (λ c. length c ≡ n) columns → All (All Clean) columns
-        → Readable (Known r 0) (get_elem? columns) (all_live r.starts n)
+        → Readable (Known r 0) (slice_get columns) (all_live r.starts n)
     start_read r n columns len sz cl x i (inr p) l = absurd (not-suc-le-zero p.1)
     start_read r n columns len sz cl x i (inl h) l =
         let c = at_length columns x (omega (arith, h, len)) in
@@ -144,8 +143,8 @@ module _ (E : Env) where
         → Between k s → Inv E (Known r 0) k 0 0 (begin k r n columns s)
     unfolding begin
     begin_ok k r n columns s len sz cl v =
-        note_inv E (Known r 0) k 0 0 (clear (frame (get_elem? columns) (all_live r.starts n) [] s))
-        (enter (Known r 0) k s (get_elem? columns) (all_live r.starts n) v (start_read r n columns len sz cl)) _ tt tt
+        note_inv E (Known r 0) k 0 0 (clear (frame (slice_get columns) (all_live r.starts n) [] s))
+        (enter (Known r 0) k s (slice_get columns) (all_live r.starts n) v (start_read r n columns len sz cl)) _ tt tt
 
     pub end_ok : (k : ℕ) (s : State) → Between k s → Between k (end s)
     unfolding end

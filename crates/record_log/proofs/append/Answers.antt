@@ -1,28 +1,30 @@
--- By the test: without room nothing is written (`no_room`); with room the stores of kind, table and row are one store of the record (`store_record`).
-use Prim.Native.Nat.{◌+◌}
-use mathlib.Core.Path.{◌≡◌, ap, ◌∙◌}
-use lib.ListN.{length, length-set}
-use native.Mathlib.Omega.{arith}
-use Rattle.record_log.specs.declared.Appended.TheVariants.{Used}
+-- By the test: without room nothing is written (`no_room`); with room the stores of kind and table and the copy of the row are one store of the record (`store_record`).
+use Rattle.std.specs.Prelude.{Some}
+use Rattle.std.proofs.Common.{◌≡◌, ℕ, ◌+◌, ◌≤◌, List, length, get_or, sym, ap, ◌∙◌, arith, append_assoc, drop-drop, length-set}
+use Rattle.std.proofs.lemmas.List.Edits.{sets, sets-eq}
+use borrow.Rule.Slice.PartMut.{put_mid}
+use Rattle.model.specs.Basics.{tab}
+use Rattle.model.specs.Laws.Lists.{length_tab}
+use Rattle.tables.specs.TablesLaws.{front_take}
 use Rattle.record_log.specs.Log.{record_of}
 use Rattle.record_log.specs.LogLaws.{length_record, store_record, no_room, room}
 use Rattle.record_log.proofs.append.Goals as goal
+
+-- a part that was written over, as stores
+put_sets : (at n m : ℕ) (l vs : List ℕ) → n ≡ length vs → m ≡ n → at + n ≤ length l → put_mid at m l vs ≡ sets l at vs
+put_sets at n m l vs e q h = rw (q, drop-drop, e, ← append_assoc) (sym (sets-eq vs l at (omega arith)))
 
 pub returns-then-log-end : goal.returns-then-log-end
 returns-then-log-end c =
     let a = c.args in
     let r = no_room a.log.now a.used (record_of a.kind a.table.0 a.row.now a.count) (omega (arith, length_record a.kind a.table.0 a.row.now a.count, c.if-log-end.true)) in record { answer = r.0; log = r.1 }
 
-pub bounds-log-used-2 : goal.bounds-log-used-2
-bounds-log-used-2 c = simp length-set (omega arith)
-
-pub shape_of-log : goal.shape_of-log
-shape_of-log c = c.store.auto.log ∙ simp length-set
-
 pub returns : goal.returns
 returns c =
-    let if1 = c.if-log-end in
     let a = c.args in
-    let n : a.used + 2 + a.count ≡ a.used + length (record_of a.kind a.table.0 a.row.now a.count) = omega (arith, length_record a.kind a.table.0 a.row.now a.count) in
-    let r = room a.log.now a.used (record_of a.kind a.table.0 a.row.now a.count) (omega (arith, n, if1.false)) in
-    record { answer = ap Used n ∙ r.0; log = c.store.ensures ∙ store_record a.kind a.table.0 a.row.now a.count a.log.now a.used ∙ r.1 }
+    let words = record_of a.kind a.table.0 a.row.now a.count in
+    let n : a.used + 2 + a.count ≡ a.used + length words = omega (arith, length_record a.kind a.table.0 a.row.now a.count) in
+    let r = room a.log.now a.used words (omega (arith, n, c.if-log-end.false)) in
+    let row = tab (λ (i : ℕ). get_or a.row.now i 0) a.count in
+    let copied : c.copy_from_slice.new.self ≡ row = c.copy_from_slice.ensures.after ∙ sym (front_take a.row.now a.count (omega arith)) in
+    record { answer = ap Some n ∙ r.0; log = rw copied (put_sets (a.used + 2) a.count _ _ row (sym (length_tab _ a.count)) (omega arith) (simp length-set (omega (arith, c.if-log-end.false))) ∙ store_record a.kind a.table.0 a.row.now a.count a.log.now a.used ∙ r.1) }

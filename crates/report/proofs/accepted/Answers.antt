@@ -1,15 +1,9 @@
-use mathlib.Core.Path.{ap, ◌∙◌}
-use Rattle.report.specs.declared.lines.Family.TheVariants.{Tables, Counters}
-use Rattle.report.specs.Text.{text, up_to, appended}
-use Rattle.report.specs.Lines.{family_lines, log_lines}
 use Rattle.report.specs.LinesLaws.{answer_is}
+use Rattle.report.specs.Page.{appends_more, appends_is}
+use Rattle.std.proofs.Common.{rules}
 use Rattle.report.proofs.accepted.Goals as goal
 
 pub returns : goal.returns
 returns c =
-    let numbered = c.numbered-at in
-    let log = c.log-at in
-    let numbered2 = c.numbered-at-2 in
-    let a = c.args in
-    let w = a.words.now in
-    c.numbered.ensures ∙ ap (appended (text (family_lines w Counters))) (numbered2.ensures ∙ ap (appended (text (family_lines w Tables))) (log.ensures ∙ ap (appended (text (log_lines w))) numbered.ensures)) ∙ answer_is w (up_to a.out.now a.at)
+    let all = appends_is (answer_is c.args.words.now) (appends_more (appends_more (appends_more c.numbered.ensures c.log.ensures) c.numbered-2.ensures) c.numbered-3.ensures) in
+    search (rules, all.bytes)

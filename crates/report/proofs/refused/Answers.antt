@@ -1,9 +1,13 @@
-use Rattle.std.proofs.Common.{sym, ap, ◌∙◌}
-use Rattle.report.specs.Text.{field, at_name, pushed, appended, up_to}
-use Rattle.report.specs.TextLaws.{refused_is}
+use Rattle.std.proofs.Common.{rules, sym}
+use Rattle.model.specs.Printed.{refused}
+use Rattle.report.specs.Text.{line_bytes}
+use Rattle.report.specs.TextLaws.{text_one}
+use Rattle.report.specs.Page.{appends_more, appends_is}
 use Rattle.report.proofs.refused.Goals as goal
 
 pub returns : goal.returns
+unfolding line_bytes
 returns c =
-    let a = c.args in
-    c.push.ensures ∙ ap (pushed 10) (c.number-at-2.ensures ∙ ap (appended (field a.place)) (c.append-at-2.ensures ∙ ap (appended at_name) (c.number-at.ensures ∙ ap (appended (field a.number)) c.append-at.ensures))) ∙ sym (refused_is a.number a.place (up_to a.out.now a.at))
+    let all = rw c.from.ensures at (appends_more (appends_more (appends_more (appends_more c.append.ensures c.number.ensures) c.append-2.ensures) c.number-2.ensures) c.append-3.ensures) in
+    let line = appends_is (sym (text_one (refused c.args.number c.args.place))) all in
+    search (rules, line.bytes)

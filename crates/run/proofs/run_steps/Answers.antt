@@ -1,28 +1,16 @@
--- By the test: the rows are few enough to index (`serves_few`), or the index is empty, as `BookIndex` allows; either call ensures the same.
+-- The rows are few enough to index (`serves_few`), and each table stands (`table_stands`).
 use mathlib.Core.Path.{refl, sym, ◌∙◌}
-use mathlib.Core.Logic.{inl}
 use native.Mathlib.Omega.{arith}
 use Rattle.model.specs.Laws.Book.{few_tables}
 use Rattle.hash_index.specs.IndexLaws.{serves_few}
+use Rattle.action.specs.ActLaws.{table_stands}
 use Rattle.run.proofs.run_steps.Goals as goal
 
-pub rows_before-requires : goal.rows_before-requires
-rows_before-requires c =
+pub build_all-requires : goal.build_all-requires
+build_all-requires c =
     let a = c.args in
+    let w = a.words.now in
     let q = c.requires in
-    omega (arith, c.table_count.ensures, q.1.tables, few_tables a.words.now q.0)
-
-pub run_indexed-requires : goal.run_indexed-requires
-run_indexed-requires c =
-    let table-count = c.table_count in
-    let rows_before = c.rows_before in
-    let serves = c.serves in
-    let if1 = c.if-serves in
-    let q = c.requires in
-    let few = serves_few rows_before.result (sym serves.ensures ∙ if1.true) in
-    (q.0, q.1, rw (rows_before.ensures, table-count.ensures, q.1.tables) at few, q.2, q.3, q.4, q.5)
-
-pub run_by-requires : goal.run_by-requires
-run_by-requires c =
-    let q = c.requires in
-    (q.0, inl refl, q.1, q.2, q.3, q.4, q.5)
+    let n = c.table_count-tables.ensures ∙ q.1.tables in
+    let few = serves_few c.rows_before.result (sym c.serves.ensures ∙ c.if-serves.true) in
+    (rw n (few_tables w q.0), λ t l. table_stands w q.0 t (omega (arith, l, n)), rw c.rows_before.ensures at few, refl)

@@ -1,10 +1,7 @@
 use mathlib.Core.Path.{◌∙◌}
 use native.Mathlib.Omega.{arith}
-use Rattle.step.specs.StepsLaws.{entry_small, body_small, prediction_facts}
+use Rattle.step.specs.StepsLaws.{body_small, prediction_facts}
 use Rattle.step.proofs.key_asked.Goals as goal
-
-pub first_of-at-requires : goal.first_of-at-requires
-first_of-at-requires c = let q = c.requires in omega (arith, entry_small q.0 q.1)
 
 pub words_at-requires : goal.words_at-requires
 words_at-requires c =
@@ -12,6 +9,3 @@ words_at-requires c =
     let first = c.first_of-at.ensures.0 in
     let n = c.size-n.ensures.0 ∙ c.word.ensures in
     (rw (n, first) (prediction_facts q.0 q.1 q.2).keys, omega (arith, first, body_small q.0 q.1))
-
-pub returns : goal.returns
-returns c = c.words_at.ensures ∙ rw (c.size-n.ensures.0, c.word.ensures, c.first_of-at.ensures.0)

@@ -7,13 +7,8 @@ use native.Mathlib.Omega.{arith}
 use lib.ListN.{replicate}
 use Rattle.mask.specs.Masks.{first_lanes}
 use Rattle.step.specs.Steps.{ran_batch}
-use Rattle.step.specs.StepsLaws.{entry_small, batch_facts, columns_within}
+use Rattle.step.specs.StepsLaws.{batch_facts, columns_within}
 use Rattle.step.proofs.run_batch.Goals as goal
-
-pub first_of-at-requires : goal.first_of-at-requires
-first_of-at-requires c =
-    let q = c.requires in
-    omega (arith, entry_small q.0 q.3)
 
 pub load-requires : goal.load-requires
 load-requires c =
@@ -38,13 +33,6 @@ run_instrs-requires c =
     let first = first_of.ensures.0 in
     let rule = size.ensures.0 ∙ word.ensures in
     (q.0, q.1, q.2, rw (rule, first) (batch_facts q.0 q.3 q.4).rule, q.5, load.auto.bindings ∙ clear.auto.buf ∙ q.6)
-
-pub shape_of-bindings : goal.shape_of-bindings
-shape_of-bindings c =
-    let clear = c.clear in
-    let load = c.load in
-    let run-instrs = c.run_instrs in
-    run-instrs.auto.bindings ∙ load.auto.bindings ∙ clear.auto.buf
 
 pub returns : goal.returns
 unfolding ran_batch

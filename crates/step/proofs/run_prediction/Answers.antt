@@ -1,16 +1,8 @@
 -- By the calls' contracts row and key are those of `asked_row`, so `predict_val` gives it; `table_here`, `writes_short`, `prediction_facts` let it be called.
 use mathlib.Core.Path.{◌∙◌}
-use native.Mathlib.Omega.{arith}
 use Rattle.args.specs.Args.{words_at}
-use Rattle.step.specs.Steps.{asked_row}
-use Rattle.step.specs.StepsLaws.{entry_small, prediction_facts, table_here, writes_short}
+use Rattle.step.specs.StepsLaws.{prediction_facts, table_here, writes_short}
 use Rattle.step.proofs.run_prediction.Goals as goal
-
-pub first_of-at-requires : goal.first_of-at-requires
-first_of-at-requires c = let q = c.requires in omega (arith, entry_small q.0 q.2)
-
-pub key_asked-requires : goal.key_asked-requires
-key_asked-requires c = let q = c.requires in (q.0, q.2, q.3)
 
 pub predict_val-requires : goal.predict_val-requires
 unfolding words_at
@@ -23,17 +15,3 @@ predict_val-requires c =
     let first = first_of.ensures.0 in
     let n = size.ensures.0 ∙ word.ensures in
     (rw (c.of.ensures, word2.ensures, first) (table_here q.0 q.2 q.3 q.1), rw (c.list_at.ensures.is, n, first) (writes_short q.0 q.2 q.3), rw c.key_asked.ensures (prediction_facts q.0 q.2 q.3).keys, q.4)
-
-pub returns : goal.returns
-unfolding asked_row
-returns c =
-    let first_of = c.first_of-at in
-    let word = c.word in
-    let size = c.size-n in
-    let word2 = c.word-2 in
-    let listed = c.list_at in
-    let key-asked = c.key_asked in
-    let first = first_of.ensures.0 in
-    let n = size.ensures.0 ∙ word.ensures in
-    let r = c.predict_val in
-    record { is = r.ensures.is ∙ rw (c.of.ensures, key-asked.ensures, listed.ensures.is, word2.ensures, n, first); fits = r.ensures.fits }

@@ -1,32 +1,28 @@
--- After v turns n is how many of the first v variables are bound (`iter_more`), which is v at most (`how_many_le`); at the end v is 32.
-use native.Mathlib.Numerals.{add-one}
-use mathlib.Core.Path.{◌∙◌, ◌≡◌}
-use Prim.Native.Nat.{ℕ, suc}
-use mathlib.Core.Bool.{Bool, false}
-use native.Mathlib.Omega.{arith}
-use lib.ListN.{get_or}
-use Rattle.model.specs.Basics.{when}
-use Rattle.model.specs.Laws.Iter.{iter_more}
-use Rattle.mask.specs.MaskLaws.{how_many_le}
-use borrow.Author.Rules.{rules}
+-- The chain counts those that are true of all 32, which is `how_many` by induction over the first n of them (`counted`).
+use Rattle.std.proofs.Common.{◌≡◌, ◌+◌, ◌≤◌, ℕ, zero, suc, Bool, true, false, cond, List, length, get_or, take, refl, sym, ap, ◌∙◌, add-one, arith, rules, tests}
+use Rattle.std.specs.List.{filter}
+use Rattle.std.proofs.Math.Seq.{take-length}
+use Rattle.std.proofs.lemmas.List.Filters.{length-filter_more}
+use Rattle.std.proofs.lemmas.Iterator.{YieldsList-from_slice}
+use Rattle.std.proofs.lemmas.Iterator.Consumers.{YieldsList-from_filter, count_from_yields_List}
+use Rattle.model.specs.Basics.{when, how_many}
 use Rattle.step_bodies.proofs.bound_count.Goals as goal
-use Rattle.step_bodies.proofs.bound_count.Goals.{else-bound-v, then-bound-v}
 
-pub overflow_add-n : goal.overflow_add-n
-overflow_add-n c =
-    let a = c.args in
-    let l = c.loop-v in
-    omega (arith, how_many_le (λ (k : ℕ). get_or a.bound.known k false) l.v)
+one_more : (b : Bool) (n : ℕ) → n + cond b 1 0 ≡ when b suc n
+one_more true n = omega arith
+one_more false n = omega arith
 
-pub loop-v-preserved : goal.loop-v-preserved
-loop-v-preserved c =
-    let a = c.args in
-    let l = c.loop-v in
-    let p : ℕ → Bool = λ (k : ℕ). get_or a.bound.known k false in
-    (search rules, iter_more (λ k. when (p k) suc) l.v 0 l.n _ l.invariant.1 (elim c.if-bound-v.branch [ then-bound-v w ↦ rw w.if-bound-v.true (w.n-is ∙ rw add-one) | else-bound-v w ↦ rw w.if-bound-v.false w.n-is ]))
+counted : (bs : List Bool) (n : ℕ) → n ≤ length bs → length (filter (λ b. b) (take n bs)) ≡ how_many (λ v. get_or bs v false) n
+counted bs zero h = refl
+counted bs (suc n) h =
+    let more : length (filter (λ b. b) (take (suc n) bs)) ≡ length (filter (λ b. b) (take n bs)) + cond (get_or bs n false) 1 0 = rw (← add-one n) (length-filter_more (λ b. b) bs n false h) in
+    more ∙ ap (λ (k : ℕ). k + cond (get_or bs n false) 1 0) (counted bs n (omega arith)) ∙ one_more (get_or bs n false) (how_many (λ v. get_or bs v false) n)
 
 pub returns : goal.returns
 returns c =
-    let l = c.loop-v in
-    let e : l.v ≡ 32 = omega arith in
-    rw e at l.invariant.1
+    let known = c.args.bound.known in
+    let all : length known ≡ 32 = search rules in
+    count_from_yields_List c.filter.result _ c.count.ensures.ran (YieldsList-from_filter _ (λ b. b) (YieldsList-from_slice known cc) c.filter.ensures.closure (λ x r q k. search (rules, tests)))
+    ∙ ap (λ (bs : List Bool). length (filter (λ b. b) bs)) (sym (take-length known))
+    ∙ ap (λ (n : ℕ). length (filter (λ b. b) (take n known))) all
+    ∙ counted known 32 (omega arith)

@@ -55,16 +55,10 @@ overflow_cast-answer c =
     let a = c.args in
     omega (arith, count_most a.mask.live (search rules), c.count.ensures)
 
-pub bounds-answer-at-2 : goal.bounds-answer-at-2
-bounds-answer-at-2 c = simp length-set (omega arith)
-
 pub overflow_cast-answer-3 : goal.overflow_cast-answer-3
 overflow_cast-answer-3 c =
     let a = c.args in
     omega (arith, how_many_le (λ (v : ℕ). get_or a.kept.bound.known v false) 32, c.bound_count-n.ensures)
-
-pub bounds-answer-at-3 : goal.bounds-answer-at-3
-bounds-answer-at-3 c = simp length-set (omega arith)
 
 pub write_columns-p-requires : goal.write_columns-p-requires
 write_columns-p-requires c =
@@ -79,11 +73,6 @@ write_live-requires c =
     let w = c.write_columns-p in
     let h : length w.new.answer ≡ length a.answer.now = w.auto.answer ∙ simp length-set in
     (pre.1, rw (h, w.ensures.end) (room (goal.at.write_live-requires c).Else-answer-end))
-
-pub shape_of-answer : goal.shape_of-answer
-shape_of-answer c =
-    let write-columns = c.write_columns-p in
-    c.write_live.auto.answer ∙ write-columns.auto.answer ∙ simp length-set
 
 pub returns : goal.returns
 unfolding batch_words

@@ -5,13 +5,11 @@ use Rattle.step_bodies.specs.Runs.{put_none, end_none, put_more, end_more, put_f
 use lib.ListN.{length, get_or}
 use native.Mathlib.Omega.{arith}
 use mathlib.Core.Bool.{false}
-use mathlib.Core.Path.{◌≡◌, ◌∙◌}
 use Prim.Native.Nat.{ℕ}
-use borrow.Author.Rules.{rules}
 use Rattle.step_bodies.proofs.write_columns.Goals as goal
 
 pub loop-v-init : goal.loop-v-init
-loop-v-init c = (search rules, search rules, end_none _ _, put_none _ _ _)
+loop-v-init c = (end_none _ _, put_none _ _ _)
 
 pub write_column-at-requires : goal.write_column-at-requires
 write_column-at-requires c =
@@ -20,7 +18,7 @@ write_column-at-requires c =
     let l = c.loop-v in
     let f : ℕ → List ℕ = (λ (v : ℕ). column_words a.bindings.now a.lanes (get_or a.bound.known v false) v) in
     let p = c.requires in
-    (loop-test.true, p.0, p.1, put_fits f a.start l.v 32 l.at (length l.answer) loop-test.true l.invariant.2 (omega (arith, p.2, l.invariant.1)))
+    (omega arith, p.0, p.1, put_fits f a.start l.v 32 l.at (length l.answer) (omega arith) l.invariant.0 (omega (arith, p.2)))
 
 pub loop-v-preserved : goal.loop-v-preserved
 loop-v-preserved c =
@@ -28,10 +26,4 @@ loop-v-preserved c =
     let l = c.loop-v in
     let f : ℕ → List ℕ = (λ (v : ℕ). column_words a.bindings.now a.lanes (get_or a.bound.known v false) v) in
     let w = c.write_column-at in
-    (search rules, w.auto.answer ∙ l.invariant.1, end_more f a.start l.v l.at _ l.invariant.2 w.ensures.end, put_more f a.start l.v a.answer.now l.answer _ l.at l.invariant.3 l.invariant.2 w.ensures.words)
-
-pub returns : goal.returns
-returns c =
-    let l = c.loop-v in
-    let e : l.v ≡ 32 = omega arith in
-    record { words = rw e at l.invariant.3; end = rw e at l.invariant.2 }
+    (end_more f a.start l.v l.at _ l.invariant.0 w.ensures.end, put_more f a.start l.v a.answer.now l.answer _ l.at l.invariant.1 l.invariant.0 w.ensures.words)

@@ -1,13 +1,9 @@
--- After i turns the flags of the first i lanes stand from `at` on, and all else is as it was (`store_more`); at the end i is `lanes`.
+-- After i turns the flags of the first i lanes stand from `at` on, and all else is as it was (`store_more`).
+use Rattle.std.proofs.Common.{◌≡◌, ◌<◌, ℕ, false, get_or, arith, rules, length-take, get_or-take}
+use Rattle.std.specs.Int.{from_bool}
 use Rattle.record_log.specs.LogLaws.{store_more}
 use Rattle.model.specs.Answer.{flag}
 use Rattle.model.specs.Basics.{tab}
-use lib.ListN.{get_or}
-use native.Mathlib.Omega.{arith}
-use mathlib.Core.Bool.{false}
-use mathlib.Core.Path.{◌≡◌}
-use Prim.Native.Nat.{ℕ}
-use borrow.Author.Rules.{rules}
 use Rattle.step_bodies.proofs.write_live.Goals as goal
 
 pub loop-i-init : goal.loop-i-init
@@ -19,11 +15,6 @@ loop-i-preserved c =
     let a = c.args in
     let l = c.loop-i in
     let f : ℕ → ℕ = λ (k : ℕ). flag (get_or a.mask.live k false) in
-    (search rules, search rules, rw (c.flag.ensures, l.invariant.2) (store_more f l.i a.answer.now a.at))
-
-pub returns : goal.returns
-returns c =
-    let l = c.loop-i in
-    let a = c.args in
-    let e : l.i ≡ a.lanes = omega arith in
-    rw e at l.invariant.2
+    let within : l.i < a.lanes = omega (arith, length-take a.lanes a.mask.live) in
+    let e : from_bool (get_or a.mask.live l.i false) ≡ f l.i = grind arith in
+    rw (c.from.ensures, l.invariant, get_or-take a.lanes a.mask.live l.i false within, e) (store_more f l.i a.answer.now a.at)

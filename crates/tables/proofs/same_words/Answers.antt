@@ -1,27 +1,25 @@
--- The first i words are the key's; one that is not decides (`same_not`), and at the end i is k, so all are (`same_all`).
-use mathlib.Core.Path.{◌≡◌, sym}
-use native.Mathlib.Omega.{arith}
-use borrow.Author.Count.{below_more}
+-- The words that `all` has compared are the key's: all of them (`same_all`), or the one that decides is not (`same_not`).
+use Rattle.std.proofs.Common.{◌≡◌, ℕ, ◌<◌, ◌≤◌, ◌+◌, Bool, true, false, List, get_or, length, sym, zero-add, arith, rules, tests}
+use Rattle.std.specs.Bool.{MatchBool}
+use Rattle.std.specs.List.{AllWithin, HoldsAt, range_with_len}
+use Rattle.std.proofs.lemmas.Iterator.{cases_from_all, YieldsList-from_range}
+use Rattle.std.proofs.lemmas.List.FromFn.{length-range_with_len, get_or-range_with_len}
+use Rattle.tables.specs.Tables.{same_words}
 use Rattle.tables.specs.TablesLaws.{same_all, same_not}
-use borrow.Author.Rules.{rules}
 use Rattle.tables.proofs.same_words.Goals as goal
 
-pub loop-i-init : goal.loop-i-init
-loop-i-init c = (search rules, λ j h. absurd (omega arith))
+module _ (w : List ℕ) (at : ℕ) (key : List ℕ) (k : ℕ) (fits : at + k ≤ length w) where
+  abbrev Same : ℕ → Type 0
+  Same i = get_or w (at + i) 0 ≡ get_or key i 0
 
-pub returns-then-rows-at : goal.returns-then-rows-at
-returns-then-rows-at c =
-    let l = c.loop-i in
-    let a = c.args in
-    sym (same_not a.rows.now a.at a.key.now a.k l.i c.loop-i-test.true c.if-rows-at.true)
-
-pub loop-i-preserved : goal.loop-i-preserved
-loop-i-preserved c =
-    let l = c.loop-i in
-    (search rules, below_more _ _ l.invariant.1 c.if-rows-at.false)
+  decided : (r : Bool) → MatchBool r (AllWithin Same (range_with_len 0 k) 0 (length (range_with_len 0 k))) ((j : ℕ) × (j < length (range_with_len 0 k)) × HoldsAt (λ i. Same i → ⊥) (range_with_len 0 k) j) → r ≡ same_words w at key k
+  decided true all = sym (same_all w at key k fits (λ i l. rw (get_or-range_with_len, zero-add) at (all i 0 (omega arith) (omega (arith, length-range_with_len 0 k)))))
+  decided false (j, l, not) =
+      let m : j < k = omega (arith, length-range_with_len 0 k) in
+      sym (same_not w at key k j m (rw (get_or-range_with_len, zero-add) at (not 0)))
 
 pub returns : goal.returns
 returns c =
     let a = c.args in
-    let e : c.loop-i.i ≡ a.k = omega arith in
-    sym (same_all a.rows.now a.at a.key.now a.k c.requires.0 (rw e at c.loop-i.invariant.1))
+    let same : ℕ → Type 0 = Same a.rows.now a.at a.key.now a.k c.requires.0 in
+    decided a.rows.now a.at a.key.now a.k c.requires.0 _ (cases_from_all _ _ _ same (λ i. same i → ⊥) c.all.ensures.ran (YieldsList-from_range 0 a.k a.k (cc) (omega arith)) (λ x q k. search (rules, tests)) (λ x q k. search (rules, tests)))

@@ -5,39 +5,36 @@ use Rattle.answer.specs.Sums.{sum, sum_none, sum_turn, sum_fits}
 use lib.ListN.{length}
 use native.Mathlib.Omega.{arith}
 use mathlib.Core.List.{List}
-use mathlib.Core.Path.{◌≡◌, ◌∙◌, sym, ap}
+use mathlib.Core.Path.{◌∙◌, sym, ap}
 use Prim.Native.Nat.{ℕ, ◌+◌}
-use borrow.Author.Rules.{rules}
 use Rattle.answer.proofs.bodies.write_tables.Goals as goal
 
 pub loop-t-init : goal.loop-t-init
-loop-t-init c = (search rules, search rules, sym (sum_none _), end_none _ _, put_none _ _ _)
+loop-t-init c = (sym (sum_none _), end_none _ _, put_none _ _ _)
 
 pub write_table-at-requires : goal.write_table-at-requires
 write_table-at-requires c =
     let a = c.args in
     let l = c.loop-t in
     let p = c.requires in
-    let h = sum_fits (rows_length a.words.now a.counts.now) l.t a.n c.loop-t-test.true in
+    let h = sum_fits (rows_length a.words.now a.counts.now) l.t a.n (omega arith) in
     let f : ℕ → List ℕ = λ (k : ℕ). table_words a.words.now a.counts.now a.rows.now (sum (rows_length a.words.now a.counts.now) k) k in
-    (omega (arith, p.0, c.loop-t-test.true), omega (arith, h, p.1), omega (arith, h, p.2, l.invariant.2), rw l.invariant.2 (put_fits f a.start l.t a.n l.at (length l.answer) c.loop-t-test.true l.invariant.3 (omega (arith, p.3, l.invariant.1))))
+    (omega (arith, p.0), omega (arith, h, p.1), omega (arith, h, p.2, l.invariant.0), rw l.invariant.0 (put_fits f a.start l.t a.n l.at (length l.answer) (omega arith) l.invariant.1 (omega (arith, p.3))))
 
 pub rows_length-from-requires : goal.rows_length-from-requires
 rows_length-from-requires c =
-    let loop-test = c.loop-t-test in
     let a = c.args in
     let l = c.loop-t in
     let p = c.requires in
-    let h = sum_fits (rows_length a.words.now a.counts.now) l.t a.n loop-test.true in
-    (omega (arith, p.0, loop-test.true), omega (arith, h, p.1))
+    let h = sum_fits (rows_length a.words.now a.counts.now) l.t a.n (omega arith) in
+    (omega (arith, p.0), omega (arith, h, p.1))
 
 pub overflow_add-from : goal.overflow_add-from
 overflow_add-from c =
     let pre = c.requires in
-    let loop-test = c.loop-t-test in
     let a = c.args in
     let l = c.loop-t in
-    omega (arith, sum_fits (rows_length a.words.now a.counts.now) l.t a.n loop-test.true, pre.1, l.invariant.2, c.rows_length-from.ensures)
+    omega (arith, sum_fits (rows_length a.words.now a.counts.now) l.t a.n (omega arith), pre.1, l.invariant.0, c.rows_length-from.ensures)
 
 pub loop-t-preserved : goal.loop-t-preserved
 loop-t-preserved c =
@@ -45,16 +42,7 @@ loop-t-preserved c =
     let l = c.loop-t in
     let w = c.write_table-at in
     let f : ℕ → List ℕ = λ (k : ℕ). table_words a.words.now a.counts.now a.rows.now (sum (rows_length a.words.now a.counts.now) k) k in (
-      search rules,
-      w.auto.answer ∙ l.invariant.1,
-      sum_turn (rows_length a.words.now a.counts.now) l.t l.from _ l.invariant.2 (ap (λ (x : ℕ). l.from + x) c.rows_length-from.ensures),
-      end_more f a.start l.t l.at _ l.invariant.3 (w.ensures.end ∙ rw l.invariant.2),
-      put_more f a.start l.t a.answer.now l.answer _ l.at l.invariant.4 l.invariant.3 (w.ensures.words ∙ rw l.invariant.2),
+      sum_turn (rows_length a.words.now a.counts.now) l.t l.from _ l.invariant.0 (ap (λ (x : ℕ). l.from + x) c.rows_length-from.ensures),
+      end_more f a.start l.t l.at _ l.invariant.1 (w.ensures.end ∙ rw l.invariant.0),
+      put_more f a.start l.t a.answer.now l.answer _ l.at l.invariant.2 l.invariant.1 (w.ensures.words ∙ rw l.invariant.0),
     )
-
-pub returns : goal.returns
-returns c =
-    let a = c.args in
-    let l = c.loop-t in
-    let e : l.t ≡ a.n = omega arith in
-    record { words = rw e at l.invariant.4; end = rw e at l.invariant.3 }

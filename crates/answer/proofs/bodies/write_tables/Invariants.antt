@@ -4,11 +4,8 @@ use Rattle.answer.specs.Sums.{sum}
 use lib.Seq.{sets}
 use lib.ListN.{length}
 use mathlib.Core.Path.{◌≡◌}
-use Prim.Native.Nat.{◌+◌, ◌-◌, ◌≤◌}
+use Prim.Native.Nat.{◌+◌}
 use Rattle.answer.proofs.bodies.write_tables.Given as goal
 
 abbrev pub invariant-loop-t : goal.invariant-loop-t
-invariant-loop-t l = (l.t ≤ l.n) × (length l.answer ≡ length l.initial.answer) × (l.from ≡ sum (rows_length l.words l.counts) l.t) × (l.at ≡ l.start + length (runs (λ k. table_words l.words l.counts l.rows (sum (rows_length l.words l.counts) k) k) l.t)) × (l.answer ≡ sets l.initial.answer l.start (runs (λ k. table_words l.words l.counts l.rows (sum (rows_length l.words l.counts) k) k) l.t))
-
-abbrev pub decreases-loop-t : goal.decreases-loop-t
-decreases-loop-t l = l.n - l.t
+invariant-loop-t l = (l.from ≡ sum (rows_length l.words l.counts) l.t) × (l.at ≡ l.start + length (runs (λ k. table_words l.words l.counts l.rows (sum (rows_length l.words l.counts) k) k) l.t)) × (l.answer ≡ sets l.initial.answer l.start (runs (λ k. table_words l.words l.counts l.rows (sum (rows_length l.words l.counts) k) k) l.t))

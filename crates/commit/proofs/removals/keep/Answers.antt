@@ -1,7 +1,6 @@
 -- The front of `gone` is the table of removed keys (`front_keys`), and the rows that it spares are those kept (`spared_kept`), with an index and without.
 use Prim.Native.Nat.{◌*◌, ◌≤◌}
-use mathlib.Core.Path.{◌≡◌, refl, sym, ap, ◌∙◌}
-use mathlib.Core.Logic.{inl}
+use mathlib.Core.Path.{◌≡◌, refl, ap, ◌∙◌}
 use native.Mathlib.Omega.{arith}
 use lib.ListN.{length, take}
 use lib.Seq.{length-take-le}
@@ -42,38 +41,15 @@ gone_is c =
     let a = c.args in
     ap (λ (x : Keys). x.words) c.gather_if-n.ensures.1 ∙ ap (λ (i : TableInfo). onto a.gone.now (removed_keys a.words.now a.log.now a.t.0 i.keys).words) pre.0
 
-pub gather_if-n-requires : goal.gather_if-n-requires
-gather_if-n-requires c = let p = c.requires in (ap (λ (i : TableInfo). i.keys) p.0, p.2, p.5)
-
-pub slice_bounds-keep_indexed-end : goal.slice_bounds-keep_indexed-end
-slice_bounds-keep_indexed-end c =
-    fits (goal.at.slice_bounds-keep_indexed-end c).After-gather_if-n
-
-pub slice_bounds-keep_indexed-end-then-serves : goal.slice_bounds-keep_indexed-end-then-serves
-slice_bounds-keep_indexed-end-then-serves c =
-    sym (length-take-le _ _ (fits (goal.at.slice_bounds-keep_indexed-end-then-serves c).After-gather_if-n))
-
-pub keep_indexed-requires : goal.keep_indexed-requires
-keep_indexed-requires c =
-    let gather-if = c.gather_if-n in
-    let p = c.requires in (p.1, stand (goal.at.keep_indexed-requires c).After-gather_if-n, omega (arith, gather-if.ensures.0, p.3), p.1.stands.keys, p.4)
+pub build-requires : goal.build-requires
+build-requires c = (stand (goal.at.build-requires c).After-gather_if-n, omega (arith, c.gather_if-n.ensures.0, c.requires.3), refl)
 
 pub returns-then-serves : goal.returns-then-serves
 returns-then-serves c =
-    record { rows = c.keep_indexed.ensures ∙ rows_kept (goal.at.returns-then-serves c).After-gather_if-n _; gone = gone_is (goal.at.returns-then-serves c).After-gather_if-n }
+    let k = (goal.at.returns-then-serves c).After-gather_if-n in
+    record { rows = c.keep_all.ensures ∙ rows_kept k _; gone = gone_is k }
 
-pub slice_bounds-keep_all-end : goal.slice_bounds-keep_all-end
-slice_bounds-keep_all-end c =
-    fits (goal.at.slice_bounds-keep_all-end c).After-gather_if-n
-
-pub slice_bounds-keep_all-end-2 : goal.slice_bounds-keep_all-end-2
-slice_bounds-keep_all-end-2 c =
-    sym (length-take-le _ _ (fits (goal.at.slice_bounds-keep_all-end-2 c).After-gather_if-n))
-
-pub keep_all-requires : goal.keep_all-requires
-keep_all-requires c =
-    let p = c.requires in (p.1, stand (goal.at.keep_all-requires c).After-gather_if-n, inl refl, p.1.stands.keys, p.4)
-
-pub returns : goal.returns
-returns c =
-    record { rows = c.keep_all.ensures ∙ rows_kept (goal.at.returns c).After-gather_if-n _; gone = gone_is (goal.at.returns c).After-gather_if-n }
+pub returns-else-serves : goal.returns-else-serves
+returns-else-serves c =
+    let k = (goal.at.returns-else-serves c).After-gather_if-n in
+    record { rows = c.keep_all-else-serves.ensures ∙ rows_kept k _; gone = gone_is k }

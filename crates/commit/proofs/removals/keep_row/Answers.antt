@@ -14,11 +14,11 @@ found_is c =
     let a = c.args in
     key_found a.gone.now a.removed a.row.now key_of.result key_of.ensures pre.2 pre.0.few ∙ sym c.look_up.ensures
 
-pub returns-in-At : goal.returns-in-At
+pub returns-in-Some : goal.returns-in-Some
 unfolding spare_row
-returns-in-At c = rw (found_is (goal.at.returns-in-At c).After-look_up, c.in-At.is)
+returns-in-Some c = rw (found_is (goal.at.returns-in-Some c).After-look_up, c.in-Some.is)
 
-pub returns-in-Nothing : goal.returns-in-Nothing
+pub returns-in-None : goal.returns-in-None
 unfolding spare_row
-returns-in-Nothing c =
-    rw (found_is (goal.at.returns-in-Nothing c).After-look_up, c.in-Nothing.is) c.append.ensures
+returns-in-None c =
+    rw (found_is (goal.at.returns-in-None c).After-look_up, c.in-None.is) c.append.ensures

@@ -1,10 +1,10 @@
 -- The table among the rows stands (`new_stands`), and the index is that of all its rows or none (`index_of`), as `look_up` requires; its answer is returned.
-use mathlib.Core.Path.{sym, ap, ◌∙◌, subst}
+use mathlib.Core.Path.{sym, subst}
 use native.Mathlib.Omega.{arith}
 use mathlib.Core.Logic.{inl, inr}
 use Rattle.model.specs.Laws.Logic.{either}
 use Rattle.tables.specs.declared.TableInfo.{TableInfo}
-use Rattle.tables.specs.Tables.{Stands, found_row}
+use Rattle.tables.specs.Tables.{Stands}
 use Rattle.hash_index.specs.Index.{IndexOf}
 use Rattle.commit.specs.RowLaws.{few_rows, new_stands}
 use Rattle.commit.specs.IndexedLaws.{index_of}
@@ -16,8 +16,3 @@ look_up-requires c =
     let p = c.requires in
     subst (λ (t : TableInfo). Stands a.rows.now t × IndexOf a.rows.now t a.index.now) (sym c.table_of.ensures)
     (new_stands p.0 p.1, either inl (λ q. inr (omega (arith, few_rows p.0.some p.1, p.2.few), q)) (index_of a.info a.index.now _ p.2.is))
-
-pub returns : goal.returns
-returns c =
-    let a = c.args in
-    c.look_up.ensures ∙ ap (λ (t : TableInfo). found_row a.rows.now t a.key.now) c.table_of.ensures

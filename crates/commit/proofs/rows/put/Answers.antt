@@ -11,36 +11,31 @@ use Rattle.commit.specs.Indexed.{index_for}
 use Rattle.commit.specs.RowLaws.{key_found}
 use Rattle.commit.specs.IndexedLaws.{merge_indexed}
 use Rattle.commit.proofs.rows.put.Goals as goal
-use Rattle.commit.proofs.rows.put.Goals.{In-At}
+use Rattle.commit.proofs.rows.put.Goals.{In-Some}
 
 -- the row that was found stands among the rows
-within : (c : In-At) → c.in-At.p + c.args.info.width ≤ length c.args.rows.now
+within : (c : In-Some) → c.in-Some.p + c.args.info.width ≤ length c.args.rows.now
 within c =
     let pre = c.requires in
     let key_of = c.key_of-key in
     let a = c.args in
     let st = pre.1 in
-    omega (arith, found_within a.rows.now (new_info a.info a.part) key_of.result c.in-At.p (sym c.find.ensures ∙ c.in-At.is), st.used, st.within)
+    omega (arith, found_within a.rows.now (new_info a.info a.part.now) key_of.result c.in-Some.p (sym c.find.ensures ∙ c.in-Some.is), st.used, st.within)
 
 pub overflow_add-p : goal.overflow_add-p
 overflow_add-p c =
     let pre = c.requires in
     let good = c.well_formed in
-    omega (arith, within (goal.at.overflow_add-p c).In-At, pre.0.keys, good)
+    omega (arith, within (goal.at.overflow_add-p c).In-Some, pre.0.keys, good)
 
 pub merge_words-requires : goal.merge_words-requires
 merge_words-requires c =
     let pre = c.requires in
-    simp (length-take, length-drop) (omega (arith, within (goal.at.merge_words-requires c).In-At, pre.0.keys, pre.3))
+    simp (length-take, length-drop) (omega (arith, within (goal.at.merge_words-requires c).In-Some, pre.0.keys, pre.3))
 
-pub append_noted-requires : goal.append_noted-requires
-append_noted-requires c =
-    let pre = c.requires in
-    pre
-
-pub returns-in-At : goal.returns-in-At
+pub returns-in-Some : goal.returns-in-Some
 unfolding put_row
-returns-in-At c =
+returns-in-Some c =
     let key_of = c.key_of-key in
     let find = c.find in
     let merging = c.merge_words in
@@ -48,21 +43,21 @@ returns-in-At c =
     let pre = c.requires in
     let k = a.info.keys in
     let row = a.row.now in
-    let s : Rows = record { words = a.rows.now; part = a.part } in
-    let at = sym find.ensures ∙ c.in-At.is in
-    let e = key_found a.rows.now (new_info a.info a.part) row key_of.result key_of.ensures (omega (arith, pre.0.keys, pre.3)) pre.0.few ∙ at in
+    let s : Rows = record { words = a.rows.now; part = a.part.now } in
+    let at = sym find.ensures ∙ c.in-Some.is in
+    let e = key_found a.rows.now (new_info a.info a.part.now) row key_of.result key_of.ensures (omega (arith, pre.0.keys, pre.3)) pre.0.few ∙ at in
     let r : take (length row - k) (drop k row) ≡ drop k row = take_all (length row - k) (drop k row) (omega (arith, length-drop k row)) in
-    let m : ◌≡◌ {A = Rows} (record { words = merging.new.rows; part = a.part }) (merged_at a.info row c.in-At.p s) = rw (← r) (ap (λ (x : List ℕ). record { words = x; part = a.part }) merging.ensures) in
-    record { rows = rw e m; index = pre.2.is ∙ merge_indexed a.info pre.0 row pre.3 s pre.1 key_of.result c.in-At.p at (length a.index.now) ∙ ap (λ (x : Rows). index_for a.info x (length a.index.now)) (sym m) }
+    let m : ◌≡◌ {A = Rows} (record { words = merging.new.rows; part = a.part.now }) (merged_at a.info row c.in-Some.p s) = rw (← r) (ap (λ (x : List ℕ). record { words = x; part = a.part.now }) merging.ensures) in
+    record { rows = rw e m; index = pre.2.is ∙ merge_indexed a.info pre.0 row pre.3 s pre.1 key_of.result c.in-Some.p at (length a.index.now) ∙ ap (λ (x : Rows). index_for a.info x (length a.index.now)) (sym m) }
 
-pub returns-in-Nothing : goal.returns-in-Nothing
+pub returns-in-None : goal.returns-in-None
 unfolding put_row
-returns-in-Nothing c =
+returns-in-None c =
     let key_of = c.key_of-key in
     let find = c.find in
     let append-noted = c.append_noted in
     let a = c.args in
     let pre = c.requires in
     let r = append-noted.ensures in
-    let e = key_found a.rows.now (new_info a.info a.part) a.row.now key_of.result key_of.ensures (omega (arith, pre.0.keys, pre.3)) pre.0.few ∙ sym find.ensures ∙ c.in-Nothing.is in
+    let e = key_found a.rows.now (new_info a.info a.part.now) a.row.now key_of.result key_of.ensures (omega (arith, pre.0.keys, pre.3)) pre.0.few ∙ sym find.ensures ∙ c.in-None.is in
     record { rows = rw e r.rows; index = r.index }

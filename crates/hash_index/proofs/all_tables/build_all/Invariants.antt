@@ -1,9 +1,6 @@
-use Rattle.std.proofs.Common.{◌≡◌, ◌-◌, ◌≤◌}
+use Rattle.std.proofs.Common.{◌≡◌}
 use Rattle.hash_index.specs.Book.{rows_before, book_indexed}
 use Rattle.hash_index.proofs.all_tables.build_all.Given as goal
 
 abbrev pub invariant-loop-t : goal.invariant-loop-t
-invariant-loop-t l = (l.t ≤ l.n) × (l.first ≡ rows_before l.words l.t) × (l.index ≡ book_indexed l.words l.t)
-
-abbrev pub decreases-loop-t : goal.decreases-loop-t
-decreases-loop-t l = l.n - l.t
+invariant-loop-t l = (l.first ≡ rows_before l.words l.t) × (l.index ≡ book_indexed l.words l.t)

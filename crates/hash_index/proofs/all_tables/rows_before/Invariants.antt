@@ -1,9 +1,6 @@
-use Rattle.std.proofs.Common.{◌≡◌, ◌-◌, ◌*◌, ◌≤◌}
+use Rattle.std.proofs.Common.{◌≡◌, ◌*◌, ◌≤◌}
 use Rattle.hash_index.specs.Book.{rows_before}
 use Rattle.hash_index.proofs.all_tables.rows_before.Given as goal
 
 abbrev pub invariant-loop-t : goal.invariant-loop-t
-invariant-loop-t l = (l.t ≤ l.n) × (l.rows ≤ l.t * 4294967295) × (l.rows ≡ rows_before l.words l.t)
-
-abbrev pub decreases-loop-t : goal.decreases-loop-t
-decreases-loop-t l = l.n - l.t
+invariant-loop-t l = (l.rows ≤ l.t * 4294967295) × (l.rows ≡ rows_before l.words l.t)

@@ -1,6 +1,6 @@
-use Prim.Native.Nat.{◌+◌, ◌*◌, ◌-◌, ◌≤◌}
+use Prim.Native.Nat.{◌+◌, ◌*◌, ◌≤◌}
 use mathlib.Core.Path.{◌≡◌}
-use lib.ListN.{length, take}
+use lib.ListN.{take}
 use Rattle.model.specs.Book.Decode.{past}
 use Rattle.words.specs.Filled.{filled}
 use Rattle.instr.specs.Fields.{fields_of, part_at}
@@ -8,11 +8,6 @@ use Rattle.instr.proofs.layout.parts_at.Given as goal
 
 abbrev pub invariant-loop-k : goal.invariant-loop-k
 invariant-loop-k l =
-    (l.k ≤ 6)
-    × (length l.all ≡ 6)
-    × (l.q ≡ past l.words (fields_of (take l.k l.kinds)) (l.p + 1))
-    × (l.all ≡ filled (λ i. part_at l.words (past l.words (fields_of (take i l.kinds)) (l.p + 1))) l.k l.initial.all)
+    (l.q ≡ past l.words (fields_of (take l.k l.kind-items)) (l.p + 1))
+    × (l.all ≡ filled (λ i. part_at l.words (past l.words (fields_of (take i l.kind-items)) (l.p + 1))) l.k l.initial.all)
     × (l.q ≤ l.p + 1 + 8589934591 * l.k)
-
-abbrev pub decreases-loop-k : goal.decreases-loop-k
-decreases-loop-k l = 6 - l.k

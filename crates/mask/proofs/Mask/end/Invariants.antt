@@ -6,7 +6,4 @@ use Rattle.mask.specs.Masks.{past_last}
 use Rattle.mask.proofs.Mask.end.Given as goal
 
 abbrev pub invariant-loop-i : goal.invariant-loop-i
-invariant-loop-i l = (l.i ≤ 256) × (l.last.0 ≤ l.i - 1) × (l.last.0 ≡ past_last (λ k. get_or l.self.live k false) l.i - 1)
-
-abbrev pub decreases-loop-i : goal.decreases-loop-i
-decreases-loop-i l = 256 - l.i
+invariant-loop-i l = (l.last ≤ l.i - 1) × (l.last ≡ past_last (λ k. get_or l.fn.self.live k false) l.i - 1)

@@ -1,13 +1,9 @@
-use Prim.Native.Nat.{ℕ, ◌-◌, ◌≤◌, ◌<◌}
+use Prim.Native.Nat.{ℕ, ◌<◌}
 use mathlib.Core.Path.{◌≡◌}
 use mathlib.Core.Bool.{false}
 use Rattle.model.specs.Book.Read.{is_repeat}
-use Rattle.tables.specs.Tables.{row_at}
 use Rattle.reader.specs.Places.{rows_of}
 use Rattle.reader.proofs.rows.first_repeat.Given as goal
 
 abbrev pub invariant-loop-i : goal.invariant-loop-i
-invariant-loop-i l = (l.i ≤ l.info.rows) × (l.own ≡ row_at l.info l.i) × ((j : ℕ) → j < l.i → false ≡ is_repeat l.info.keys (rows_of l.words l.info) j)
-
-abbrev pub decreases-loop-i : goal.decreases-loop-i
-decreases-loop-i l = l.info.rows - l.i
+invariant-loop-i l = (j : ℕ) → j < l.i → false ≡ is_repeat l.info.keys (rows_of l.words l.info) j

@@ -1,19 +1,13 @@
 -- The body read is that of entry count - 1, the log's; the lines of its records and after them the flag's are the lines of the log (`log_is`).
-use Rattle.std.proofs.Common.{◌≡◌, ap, ◌∙◌}
-use Rattle.std.specs.Prelude.{get_or}
-use Rattle.model.specs.Printed.{changed}
-use Rattle.report.specs.Text.{line_bytes, up_to, appended}
+use Rattle.std.proofs.Common.{◌≡◌, ◌∙◌}
+use Rattle.report.specs.Text.{line_bytes}
 use Rattle.report.specs.Lines.{log_body}
 use Rattle.report.specs.LinesLaws.{log_is}
+use Rattle.report.specs.Page.{appends_more, appends_is}
 use Rattle.report.proofs.lines.log.Goals as goal
 
 pub returns : goal.returns
 unfolding line_bytes
 returns c =
-    let a = c.args in
-    let b = c.body-body.result.now in
-    let t = up_to a.out.now a.at in
-    let e : b ≡ log_body a.words.now = c.body-body.ensures ∙ rw (c.before-2.ensures.0, c.size-n.ensures.0, c.word.ensures) in
-    c.line.ensures
-    ∙ rw (c.wide_word-flag.ensures, c.word-2.ensures) (ap (appended (line_bytes (changed (get_or b 0 0)))) (c.records-next.ensures ∙ rw c.rest.ensures))
-    ∙ log_is a.words.now b t e
+    let e : c.body-body.result.now ≡ log_body c.args.words.now = c.body-body.ensures ∙ rw (c.saturating_sub.ensures, c.size_at-count.ensures.0) in
+    appends_is (rw (c.from.ensures, c.word.ensures, c.rest.ensures, e) (log_is c.args.words.now)) (appends_more c.records.ensures c.line.ensures)

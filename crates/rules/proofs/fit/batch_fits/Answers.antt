@@ -1,30 +1,22 @@
--- By the calls' contracts and `first_rule_is` each number is the one that the model reads from the book; the test of these is the model's (`batch_test`).
-use mathlib.Core.Path.{sym}
+use mathlib.Core.Path.{◌≡◌, sym, ◌∙◌}
 use native.Mathlib.Omega.{arith}
+use lib.ListN.{get_or}
+use borrow.Author.Tests.{eq-eqb, le-ltb}
+use Rattle.model.specs.Outcome.{rule_first}
 use Rattle.model.specs.Laws.Book.{rule_entry}
 use Rattle.contents.specs.ContentsLaws.{first_rule_is}
 use Rattle.rules.specs.StepLaws.{batch_test}
 use Rattle.rules.proofs.fit.batch_fits.Goals as goal
 
-pub overflow_add-first_rule : goal.overflow_add-first_rule
-overflow_add-first_rule c =
-    let word = c.word in
-    let a = c.args in
-    let q = c.requires in
-    omega (arith, first_rule_is q.1 c.first_rule.ensures, c.size-rule.ensures.0, word.ensures, rule_entry a.words.now q.0 _ q.3)
-
 pub first_of-first-requires : goal.first_of-first-requires
 first_of-first-requires c =
-    let word = c.word in
-    let a = c.args in
     let q = c.requires in
-    omega (arith, first_rule_is q.1 c.first_rule.ensures, c.size-rule.ensures.0, word.ensures, rule_entry a.words.now q.0 _ q.3)
+    omega (arith, first_rule_is q.1 c.first_rule.ensures, c.size_at-rule.ensures.0, rule_entry c.args.words.now q.0 _ q.3)
 
-pub returns : goal.returns
-returns c =
-    let word2 = c.word-lanes in
-    let word = c.word in
-    let size = c.size-rule in
+pub returns-else-v-gt0 : goal.returns-else-v-gt0
+returns-else-v-gt0 c =
     let a = c.args in
     let q = c.requires in
-    rw (c.word-starts.ensures, c.first_of-first.ensures.0, first_rule_is q.1 c.first_rule.ensures, size.ensures.0, word.ensures, word2.ensures, c.word-v.ensures) (sym (batch_test a.words.now q.0 a.at q.3))
+    let w = a.words.now in
+    let e : get_or w (rule_first w (get_or w a.at 0)) 0 ≡ c.word-starts.result = sym (c.word-starts.ensures ∙ rw (c.first_of-first.ensures.0, first_rule_is q.1 c.first_rule.ensures, c.size_at-rule.ensures.0)) in
+    rw (batch_test w q.0 a.at q.3, e, ← c.word-v.ensures, eq-eqb _ _ c.if-v-starts.true, le-ltb 0 _ c.if-v-gt0.false, c.word-lanes.ensures)

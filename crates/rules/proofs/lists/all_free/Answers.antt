@@ -1,35 +1,18 @@
--- The first k entries are free (`below_more`); if the next is not, the whole is false (`entries_no`); at the end k is the count, and all are (`entries_yes`).
-use mathlib.Core.Path.{◌≡◌, sym, ap, ◌∙◌}
+use mathlib.Core.Path.{refl, ◌∙◌}
+use Prim.Native.Nat.{◌+◌, ◌*◌}
 use native.Mathlib.Omega.{arith}
-use borrow.Author.Count.{below_more}
-use Rattle.model.specs.Book.Syntax.{QueryEntry}
+use borrow.Author.Rules.{rules}
+use Rattle.std.proofs.lemmas.Iterator.{YieldsList-from_range}
+use Rattle.std.proofs.lemmas.Iterator.Search.{all_from_yields_List}
+use Rattle.model.specs.Book.Decode as decode
 use Rattle.model.specs.Check.{free?}
 use Rattle.instr.specs.InstrLaws.{entry_at_lem}
-use Rattle.instr.specs.Meaning.{entry_of}
-use Rattle.rules.specs.TestLaws.{entries_no, entries_yes}
-use borrow.Author.Rules.{rules}
+use Rattle.rules.specs.TestLaws.{entries_all}
 use Rattle.rules.proofs.lists.all_free.Goals as goal
-
-pub loop-k-init : goal.loop-k-init
-loop-k-init c = (search rules, λ i h. absurd (omega arith))
-
-pub returns-then-not-free : goal.returns-then-not-free
-returns-then-not-free c =
-    let l = c.loop-k in
-    let a = c.args in
-    let w = a.words.now in
-    entries_no w a.list (λ e. free? (a.dst.0, e)) l.k c.loop-k-test.true (sym (c.free.ensures ∙ ap (λ (e : QueryEntry). free? (a.dst.0, e)) (ap entry_of c.entry_at-e.ensures ∙ entry_at_lem w _)) ∙ c.if-not-free.true)
-
-pub loop-k-preserved : goal.loop-k-preserved
-loop-k-preserved c =
-    let l = c.loop-k in
-    let a = c.args in
-    let w = a.words.now in
-    (search rules, below_more _ _ l.invariant.1 (sym (c.free.ensures ∙ ap (λ (e : QueryEntry). free? (a.dst.0, e)) (ap entry_of c.entry_at-e.ensures ∙ entry_at_lem w _)) ∙ c.if-not-free.false))
 
 pub returns : goal.returns
 returns c =
     let a = c.args in
-    let l = c.loop-k in
-    let e : l.k ≡ a.list.count = omega arith in
-    entries_yes a.words.now a.list (λ e. free? (a.dst.0, e)) (rw e at l.invariant.1)
+    let w = a.words.now in
+    all_from_yields_List (λ k. free? (a.dst.0, decode.entry_at w (a.list.at + 2 * k))) _ _ c.all.result c.all.ensures.ran (YieldsList-from_range 0 a.list.count a.list.count refl (omega arith)) (λ x b q k. search (rules, entry_at_lem))
+    ∙ entries_all w a.list (λ e. free? (a.dst.0, e))

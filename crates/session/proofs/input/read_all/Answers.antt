@@ -1,10 +1,12 @@
--- `at` stays within the buffer, whose length stays; by the contract of `read_some` the bytes read end past `at` and within it, so less room is left each turn.
-use Rattle.std.proofs.Common.{arith}
-use Rattle.session.proofs.Known.{consumes_more}
+-- What one more read put behind the bytes that stand there is consumed after them; it has room, since a read fills no more than it is lent.
+use Rattle.std.proofs.Common.{arith, subst, sym}
+use Rattle.std.specs.Io.KnownBytes.{Consumes}
+use Rattle.std.proofs.KnownBytes.{Consumes-trans}
+use Rattle.session.proofs.Known.{front_more}
 use Rattle.session.proofs.input.read_all.Goals as goal
 
 pub loop-at-preserved : goal.loop-at-preserved
 loop-at-preserved g c =
-    let got = c.in-Upto.ensures in
+    let got = c.in_ok-n.ensures in
     let l = c.loop-at in
-    (omega (arith, got.filled.1, l.auto.buffer), consumes_more _ _ _ l.buffer _ l.at _ got.filled.0 l.invariant.1 got.before got.took)
+    (omega (arith, got.bound.0, c.read.auto.buf, l.auto.buffer), subst (Consumes _ _) (sym (front_more l.at c.in_ok-n.n l.buffer c.read.new.buf _ (omega (arith, l.auto.buffer, l.invariant.0)) got.bound.0)) (Consumes-trans _ _ _ _ _ l.invariant.1 got.bytes.0))

@@ -1,4 +1,4 @@
--- `at` stays within the buffer, whose length stays; by the contract of `read_some` the bytes read end past `at` and within it, so less room is left each turn.
+-- The bytes read stand at the front of the buffer, up to `at`; less room is left each turn, since a read that puts no byte there ends the loop.
 use Rattle.std.proofs.Common.{length, ◌-◌, ◌≤◌, take}
 use Rattle.std.specs.Io.KnownBytes.{Consumes}
 use Rattle.session.proofs.input.read_all.Given as goal

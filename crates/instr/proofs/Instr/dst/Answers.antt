@@ -1,1 +1,0 @@
--- By the instruction: in each arm the variable given is the one that `binds_of` has there, or there is none on both sides.

@@ -1,4 +1,0 @@
-use Rattle.rules.proofs.shapes.row_fits.Goals as goal
-
-pub returns : goal.returns
-returns c = rw c.width_of.ensures.0

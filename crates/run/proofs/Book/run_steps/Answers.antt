@@ -1,0 +1,26 @@
+-- After k turns at most k steps are done, with at most 8483 k body words; at the end k is the step count, 64 at most.
+use Prim.Native.Nat.{◌<◌}
+use mathlib.Core.Path.{◌≡◌, ◌∙◌}
+use native.Mathlib.Omega.{arith}
+use Rattle.model.specs.Book.Contents.{step_count}
+use Rattle.model.specs.Laws.Book.{few_steps}
+use Rattle.run.specs.Progress.{ran_steps}
+use Rattle.run.proofs.Book.run_steps.Goals as goal
+
+pub run_next-p-requires : goal.run_next-p-requires
+run_next-p-requires c =
+    let b = c.args.self in
+    let q = c.requires in
+    let l = c.loop in
+    let k : l.counter < step_count b.words.now = omega (arith, c.loop-test.true, c.step_count-end.ensures, b.contained.steps) in
+    let few = few_steps b.words.now b.readable in
+    (q.0, omega arith, record { done = omega arith; at = omega arith }, record { used = omega arith; short = omega (arith, q.3.short); slots = l.auto.index ∙ q.3.slots }, l.auto.bindings ∙ q.4)
+
+pub returns : goal.returns
+unfolding ran_steps
+returns c =
+    let b = c.args.self in
+    let l = c.loop in
+    let e : l.counter ≡ step_count b.words.now = omega (arith, c.loop-test.false, c.step_count-end.ensures, b.contained.steps) in
+    let few = few_steps b.words.now b.readable in
+    record { is = rw (← e) l.invariant.3; fits = (l.invariant.0, omega arith, omega arith) }

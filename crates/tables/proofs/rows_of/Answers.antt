@@ -1,7 +1,0 @@
-use Prim.Native.Nat.{ℕ, ◌+◌}
-use mathlib.Core.Path.{ap, ◌∙◌}
-use lib.ListN.{get_or}
-use Rattle.tables.proofs.rows_of.Goals as goal
-
-pub returns : goal.returns
-returns c = (c.size_at.ensures.0 ∙ ap (λ (x : ℕ). get_or c.args.words.now (x + 3) 0) c.body_of.ensures.0, c.size_at.ensures.1)
