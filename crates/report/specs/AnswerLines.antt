@@ -197,10 +197,10 @@ module _ (ts : List Table) (cs : List Counter) (as' : List Answer) (changes : Bo
       let ls = table_lines 0 ts in
       let n = 0 + length ls in
       let t = voiced Tables table_body (λ k u. table k (length u.rows)) (λ k x. refl) 0 ts ∙ tables_listed 0 ts in
-      let None = append-nil ls in
+      let end = append-nil ls in
       family_lined Tables bodies
-      ∙ lined_next Tables 0 front (last ∷ []) ls [] (lined_next Tables 0 (map table_body ts ++ map counter_body cs) (map step_body as') ls [] (lined_next Tables 0 (map table_body ts) (map counter_body cs) ls [] t (quiet Tables counter_body (λ k x. refl) n cs) ∙ None) (quiet Tables step_body no_table n as') ∙ None) refl
-      ∙ None
+      ∙ lined_next Tables 0 front (last ∷ []) ls [] (lined_next Tables 0 (map table_body ts ++ map counter_body cs) (map step_body as') ls [] (lined_next Tables 0 (map table_body ts) (map counter_body cs) ls [] t (quiet Tables counter_body (λ k x. refl) n cs) ∙ end) (quiet Tables step_body no_table n as') ∙ end) refl
+      ∙ end
 
   pub counter_lines_lem : family_lines w Counters ≡ counter_lines 0 cs
   unfolding body_line lined
@@ -209,10 +209,10 @@ module _ (ts : List Table) (cs : List Counter) (as' : List Answer) (changes : Bo
       let n = 0 + length ls in
       let t = quiet Counters table_body (λ k x. refl) 0 ts in
       let c = voiced Counters counter_body (λ k x. counter k (next_of x)) (λ k x. refl) 0 cs ∙ counters_listed 0 cs in
-      let None = append-nil ls in
+      let end = append-nil ls in
       family_lined Counters bodies
-      ∙ lined_next Counters 0 front (last ∷ []) ls [] (lined_next Counters 0 (map table_body ts ++ map counter_body cs) (map step_body as') ls [] (lined_next Counters 0 (map table_body ts) (map counter_body cs) [] ls t c) (quiet Counters step_body no_counter_lem n as') ∙ None) refl
-      ∙ None
+      ∙ lined_next Counters 0 front (last ∷ []) ls [] (lined_next Counters 0 (map table_body ts ++ map counter_body cs) (map step_body as') ls [] (lined_next Counters 0 (map table_body ts) (map counter_body cs) [] ls t c) (quiet Counters step_body no_counter_lem n as') ∙ end) refl
+      ∙ end
 
   -- ## The log
 

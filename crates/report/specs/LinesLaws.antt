@@ -34,7 +34,7 @@ at_most : (a : Bool) (x : Line) → length (cond a (x ∷ []) []) ≤ 1
 at_most true x = omega arith
 at_most false x = omega arith
 
-one_line : (w : List ℕ) (f : Family) (k i : ℕ) → length (entry_line w f k i) ≤ 1
+pub one_line : (w : List ℕ) (f : Family) (k i : ℕ) → length (entry_line w f k i) ≤ 1
 unfolding entry_line
 one_line w Steps k i = by (eqb (kind_of w i) 6) _ (eqb (kind_of w i) 7) _
   where

@@ -56,8 +56,8 @@ decimal_is (suc d) (suc (suc r)) n f h =
     let high : n < 10 ^ suc (suc r) = f.1 in
     let tens : 10 ^ suc r ≡ 10 ^ r * 10 = pow-suc 10 r in
     let more : 10 ^ suc (suc r) ≡ 10 ^ suc r * 10 = pow-suc 10 (suc r) in
-    let Some : 0 < 10 ^ r = one-le-pow r 10 (omega arith) in
-    let few : IsDigitCount 10 1 (n / 10) (suc r) = (omega arith, omega arith, λ _. let None : suc r - 1 ≡ r = omega arith in rw None (omega arith)) in
+    let some : 0 < 10 ^ r = one-le-pow r 10 (omega arith) in
+    let few : IsDigitCount 10 1 (n / 10) (suc r) = (omega arith, omega arith, λ _. let none : suc r - 1 ≡ r = omega arith in rw none (omega arith)) in
     let last : n % 10 < 10 = omega arith in
     let many : 10 ≤ n = omega arith in
     rw (le-ltb n 10 many, lt-ltb (n % 10) 10 last) (ap (λ (l : List ℕ). l ++ ((48 + n % 10) ∷ [])) (decimal_is d (suc r) (n / 10) few (omega arith)))

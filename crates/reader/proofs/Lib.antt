@@ -1,0 +1,2 @@
+pub mod BodyWalks
+pub mod Walks
