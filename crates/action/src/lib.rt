@@ -323,7 +323,7 @@ pub fn run_instrs(
     ensures fits { result.state.used ≤ length log.old }
 {
     let first = contents::first_of(words, contents.first_rule() + r);
-    let n = words::size(words::word(words, first + 1));
+    let n = words::size_at(words, first + 1);
     let mut batch = start;
     let mut p = first + 2;
     for _ in 0..n {

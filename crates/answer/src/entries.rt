@@ -53,7 +53,7 @@ pub fn rows_length(words: &[u32], counts: &[u32], table: TableId) -> usize
 {
     let t = table.0 as usize;
     let info = tables::info_of(words, table);
-    let n = words::size(words::word(counts, t));
+    let n = words::size_at(counts, t);
     n * info.width
 }
 
@@ -103,7 +103,7 @@ impl<'a> Sizes<'a> {
         if i < log {
             let k = i - steps;
             let kind = step_kind(contents::kind_of(self.words, self.shape.first + k));
-            let length = words::size(words::word(self.lengths, k));
+            let length = words::size_at(self.lengths, k);
             return Entry { kind, length };
         }
         Entry {

@@ -49,7 +49,7 @@ fn commit_table(
     };
     removals::keep(words, log, t, info, gone, rows, &mut part, removes);
     inserts::insert_rows(words, log, t, info, rows, &mut part);
-    done.counts[words::size(t.0)] = part.count as u32;
+    done.counts[t.0 as usize] = part.count as u32;
     done.used = part.used;
     done.over = part.over;
 }

@@ -21,25 +21,25 @@ impl Contents {
     pub fn table_count(self) -> usize
         ensures { result ≡ self.tables }
     {
-        words::size(self.tables)
+        self.tables as usize
     }
 
     pub fn counter_count(self) -> usize
         ensures { result ≡ self.counters }
     {
-        words::size(self.counters)
+        self.counters as usize
     }
 
     pub fn rule_count(self) -> usize
         ensures { result ≡ self.rules }
     {
-        words::size(self.rules)
+        self.rules as usize
     }
 
     pub fn step_count(self) -> usize
         ensures { result ≡ self.steps }
     {
-        words::size(self.steps)
+        self.steps as usize
     }
 
     // The rules' first entry.
@@ -150,7 +150,7 @@ pub fn check(words: &[u32]) -> Result<(), Refusal>
     requires { (0 < length words.now) × (length words.now ≤ 16384) }
     ensures { refusal_of result ≡ contents.contents_refusal words.now }
 {
-    let n = words::size(words[0]);
+    let n = words[0] as usize;
     if n == 0 || 128 < n || words.len() < 1 + 3 * n {
         return Err(Refusal::Contents(0));
     }
@@ -159,7 +159,7 @@ pub fn check(words: &[u32]) -> Result<(), Refusal>
     let mut end = 1 + 3 * n;
     for i in 0..n {
         let g = group(kind_of(words, i));
-        let k = words::size(g);
+        let k = g as usize;
         counts[k] += 1;
         if !fits(last, g, counts[k], first_of(words, i), end) {
             return Err(Refusal::Contents(i));

@@ -24,7 +24,7 @@ pub fn home(words: &[u32], at: usize, k: usize) -> usize
     ensures { (result ≡ home_at words.now at k) × (result < 1024) }
 {
     let h = words[at..at + k].iter().fold(0, |h, x| mix(h, *x));
-    words::size(h / 4194304)
+    (h / 4194304) as usize
 }
 
 // The word that tells the row after the last of a chain: its link, or the head of a chain that is empty.
@@ -42,7 +42,7 @@ pub fn add(index: &mut [u32], n: usize, h: usize)
     ensures { index.new ≡ added n h index.old }
 {
     let row = (n + 1) as u32;
-    let last = words::size(index[1024 + h]);
+    let last = index[1024 + h] as usize;
     index[1024 + h] = row;
     index[end_of(last, h)] = row;
 }
@@ -92,12 +92,12 @@ fn find(
     requires { Stands words.now info × Has words.now info first index.now }
     ensures { result ≡ found_row words.now info key.now }
 {
-    let mut p = words::size(index[home(key, 0, info.keys)]);
+    let mut p = index[home(key, 0, info.keys)] as usize;
     while p != 0 {
         if let Some(at) = its_row(words, info, first, p, key) {
             return Some(at);
         }
-        p = words::size(index[2047 + p]);
+        p = index[2047 + p] as usize;
     }
     None
 }

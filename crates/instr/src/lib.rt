@@ -154,7 +154,7 @@ pub fn write_at(words: &[u32], p: usize) -> WriteVal
         0 => WriteVal::QueryEntry(QueryEntry::Var(Variable(x))),
         1 => WriteVal::QueryEntry(QueryEntry::Const(x)),
         2 => WriteVal::IncCounter(CounterId(x)),
-        _ => WriteVal::CurrentVal(words::size(x)),
+        _ => WriteVal::CurrentVal(x as usize),
     }
 }
 
@@ -177,7 +177,7 @@ impl Part {
     {
         Entries {
             at: self.rest,
-            count: words::size(self.first),
+            count: self.first as usize,
         }
     }
 
@@ -254,7 +254,7 @@ fn instr_of(op: u32, fields: [Part; 6]) -> Instr
         11 => Instr::AssertNe(f0.entry(), f1.entry()),
         12 => Instr::AssertAnyNe {
             ops: f1.list(),
-            divider: words::size(f0.first),
+            divider: f0.first as usize,
         },
         13 => Instr::ReadCounter {
             counter: CounterId(f0.first),

@@ -75,7 +75,7 @@ pub fn value(bindings: &[u32], e: QueryEntry, lane: Lane) -> u32
 fn column(row: &[u32], col: ColumnId) -> Option<u32>
     ensures { result ≡ slice_get row.now col.0 }
 {
-    match row.get(words::size(col.0)) {
+    match row.get(col.0 as usize) {
         Some(word) => Some(*word),
         None => None,
     }

@@ -150,7 +150,7 @@ fn take<'a>(
     // lent from a copy, as above
     let vals = key.vals;
     let row = predicted_index::row_of(words, log, chains, index, ask.row.of, &vals);
-    out[lane.0] = words::word(row, words::size(ask.col.0));
+    out[lane.0] = words::word(row, ask.col.0 as usize);
 }
 
 // A lane that is served has its word in `out`, unless the run ended.

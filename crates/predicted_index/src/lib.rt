@@ -27,7 +27,7 @@ fn home_of(table: ids::TableId, key: &[u32; 16], k: usize) -> usize
     let h = key[..k]
         .iter()
         .fold(hash_index::mix(0, table.0), |h, x| hash_index::mix(h, *x));
-    words::size(h / 524288)
+    (h / 524288) as usize
 }
 
 // Whether v, a place plus 1, stands for a record of this table whose words begin with the key.

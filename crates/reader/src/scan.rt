@@ -132,7 +132,7 @@ impl<'a> Body<'a> {
     {
         let n = self.peek(walk);
         let walk = self.word(Test::UpTo(most), walk)?;
-        steps(words::size(n), step, walk)
+        steps(n as usize, step, walk)
     }
 }
 

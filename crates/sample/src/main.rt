@@ -54,7 +54,7 @@ fn agrees(entry: &[u8], outcome: Result<usize, Refusal>, answer: &[u32]) -> bool
     match outcome {
         Ok(n) => number == 0 && place == n && same_answer(entry, answer, n),
         Err(refusal) => {
-            number == words::size(refusal.number())
+            number == refusal.number() as usize
                 && place == refusal.place()
                 && words::all_zero(answer)
         }

@@ -48,15 +48,15 @@ pub fn run_batch(
     ensures fits { result.state.used ≤ length log.old }
 {
     let at = contents::first_of(words, i);
-    let rule = words::size(words::word(words, at));
-    let n = words::size(words::word(words, at + 1));
+    let rule = words::size_at(words, at);
+    let n = words::size_at(words, at + 1);
     let v = words::word(words, at + 2);
     let lanes = lane_count(v, n);
     words::clear(bindings);
     bindings::load(words, at + 3, v, n, bindings);
     let kept = Bindings {
         matches: lanes,
-        bound: Bound::first(words::size(v)),
+        bound: Bound::first(v as usize),
     };
     let start = Batch {
         bindings: kept,
@@ -72,7 +72,7 @@ fn key_asked(words: &[u32], i: usize) -> Args
     ensures { result ≡ key_asked words.now (first_of words.now i) }
 {
     let at = contents::first_of(words, i);
-    let n = words::size(words::word(words, at + 1));
+    let n = words::size_at(words, at + 1);
     args::words_at(words, at + 2, n)
 }
 
@@ -95,7 +95,7 @@ pub fn run_prediction(
     ensures fits { result.state.used ≤ length log.old }
 {
     let at = contents::first_of(words, i);
-    let n = words::size(words::word(words, at + 1));
+    let n = words::size_at(words, at + 1);
     let row = Row {
         of: Sought::of(words, TableId(words::word(words, at))),
         vals: instr::list_at(words, at + 2 + n),

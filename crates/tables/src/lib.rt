@@ -35,7 +35,7 @@ pub fn info_at(words: &[u32], body: usize) -> TableInfo
 fn body_of(words: &[u32], t: ids::TableId) -> usize
     ensures { (result ≡ first_of words.now t.0) × (result < 4294967296) }
 {
-    words::size_at(words, 2 + 3 * words::size(t.0))
+    words::size_at(words, 2 + 3 * (t.0 as usize))
 }
 
 // The same as `info_at`, of the table with a number.

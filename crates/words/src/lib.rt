@@ -47,13 +47,6 @@ pub fn word(words: &[u32], p: usize) -> u32
     words.get(p).copied().unwrap_or(0)
 }
 
-// A word as a size or a place.
-pub fn size(x: u32) -> usize
-    ensures { (result ≡ x) × (result < 4294967296) }
-{
-    x as usize
-}
-
 // The word at p as a size or a place, or 0 past the end.
 pub fn size_at(words: &[u32], p: usize) -> usize
     ensures { (result ≡ get_or words.now p 0) × (result < 4294967296) }
