@@ -17,13 +17,13 @@ fit c =
     let l = c.loop-i in
     let g = c.group-g.ensures in
     let e = g.0 ∙ ap group c.kind_of.ensures in
-    let s = get_or-set_same l.counts c.size-k.result (get_or l.counts c.size-k.result 0 + 1) 0 (omega arith) ∙ ap (λ (k : ℕ). get_or l.counts k 0 + 1) c.size-k.ensures.0 in
+    let s = get_or-set_same l.counts c.group-g.result (get_or l.counts c.group-g.result 0 + 1) 0 (omega arith) in
     c.fits.ensures ∙ entry_test c.args.words.now l.i _ _ _ _ _ l.counts l.invariant.2 g.1 l.invariant.0 e s c.first_of.ensures.0 l.invariant.1
 
 pub overflow_add-counts : goal.overflow_add-counts
 overflow_add-counts c =
     let l = c.loop-i in
-    omega (arith, small_count c.args.words.now l.counts l.i c.size-k.result l.invariant.2 (omega arith) (omega arith))
+    omega (arith, small_count c.args.words.now l.counts l.i c.group-g.result l.invariant.2 (omega arith) (omega arith))
 
 pub returns-then-not-fits : goal.returns-then-not-fits
 returns-then-not-fits c =
@@ -36,8 +36,7 @@ loop-i-preserved c =
     let w = c.args.words.now in
     let l = c.loop-i in
     let e = c.group-g.ensures.0 ∙ ap group c.kind_of.ensures in
-    let k = c.size-k.ensures.0 in
-    (rw add-one e, rw add-one c.end_of-end.ensures.0, more_counts w l.counts l.i _ _ l.invariant.2 l.invariant.4 (omega arith) (k ∙ e) refl, below_more _ _ l.invariant.3 (sym (fit (goal.at.loop-i-preserved c).After-fits) ∙ c.if-not-fits.false), length-set l.counts _ _ ∙ l.invariant.4)
+    (rw add-one e, rw add-one c.end_of-end.ensures.0, more_counts w l.counts l.i _ _ l.invariant.2 l.invariant.4 (omega arith) e refl, below_more _ _ l.invariant.3 (sym (fit (goal.at.loop-i-preserved c).After-fits) ∙ c.if-not-fits.false), length-set l.counts _ _ ∙ l.invariant.4)
 
 pub returns-then-end-words : goal.returns-then-end-words
 returns-then-end-words c =
