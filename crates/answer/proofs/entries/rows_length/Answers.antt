@@ -2,4 +2,4 @@
 use Rattle.answer.proofs.entries.rows_length.Goals as goal
 
 pub returns : goal.returns
-returns c = rw (c.size-n.ensures.0, c.word.ensures, c.info_of-info.ensures)
+returns c = rw (c.size_at-n.ensures.0, c.info_of-info.ensures)

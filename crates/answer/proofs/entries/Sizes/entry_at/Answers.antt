@@ -29,7 +29,7 @@ returns-then-i-log c =
     let if1 = c.if-i-counters in
     let if2 = c.if-i-steps in
     let if3 = c.if-i-log in
-    rw (le-ltb _ _ if1.false, le-ltb _ _ if2.false, lt-ltb _ _ if3.true, c.step_kind-kind.ensures, c.kind_of.ensures, c.size-length.ensures.0, c.word.ensures)
+    rw (le-ltb _ _ if1.false, le-ltb _ _ if2.false, lt-ltb _ _ if3.true, c.step_kind-kind.ensures, c.kind_of.ensures, c.size_at-length.ensures.0)
 
 pub returns : goal.returns
 unfolding entry_at
