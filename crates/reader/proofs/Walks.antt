@@ -1,16 +1,15 @@
 -- The model's walks as chains of calls: each piece after what stands before it, and a walk that is bad stays bad.
-use Rattle.std.specs.Prelude.{ℕ, zero, suc, ◌≡◌, length, get_or, Option, None, Some}
+use Rattle.std.specs.Prelude.{ℕ, zero, suc, ◌≡◌, length, get_or}
 use Rattle.std.proofs.Math.Path.{refl, sym, ap}
 use Rattle.std.proofs.Common.{◌∙◌}
 use mathlib.Core.List.{List, [], ◌∷◌}
-use Rattle.model.specs.Basics.{iter, found}
+use Rattle.model.specs.Basics.{iter}
 use Rattle.model.specs.Laws.Scan.{walk_bad}
 use Rattle.model.specs.Book.Layout as layout
 use Rattle.model.specs.Book.Layout.{form_of}
-use Rattle.model.specs.Book.Scan.{Scan, bad, good, ◌▹◌, any_word, up_to, opcode, tag, earliest, Sizes, tagged, peek, step, word, list, pair, field, walk, instr}
+use Rattle.model.specs.Book.Scan.{Scan, bad, good, ◌▹◌, any_word, up_to, opcode, tag, earliest, Sizes, tagged, peek, step, word, list, pair, walk, instr}
 use Rattle.instr.specs.declared.layout.Field.{Field}
-use Rattle.instr.specs.declared.layout.Field.TheVariants.{Nothing}
-use Rattle.instr.specs.Fields.{field_of, fields_of}
+use Rattle.instr.specs.Fields.{fields_of}
 use Rattle.reader.specs.Values.{walk_field}
 use Rattle.reader.specs.ScanLaws.{word_bad}
 
@@ -63,22 +62,18 @@ module _ (end : ℕ) (w : List ℕ) where
     -- ## An instruction
 
     -- the loop over an instruction's fields
-    abbrev pub field_turn : List Field → ℕ → Scan → Scan
-    field_turn fs k = walk_field end w z (get_or fs k Nothing)
+    module _ (d : Field) where
+      abbrev pub field_turn : List Field → ℕ → Scan → Scan
+      field_turn fs k = walk_field end w z (get_or fs k d)
 
-    walk_is : (fs : List Field) (s : Scan) → iter (field_turn fs) (length fs) s ≡ walk end w z (fields_of fs) s
-    unfolding walk
-    walk_is [] s = refl
-    walk_is (f ∷ fs) s = iter_front (field_turn (f ∷ fs)) (length fs) s ∙ walk_is fs (walk_field end w z f s) ∙ by (field_of f)
-      where
-        by : (o : Option layout.Field) → walk end w z (fields_of fs) (found o (λ g. field end w z g s) (λ _. s)) ≡ walk end w z (found o (λ g. g ∷ fields_of fs) (λ _. fields_of fs)) s
-        by None = refl
-        by (Some g) = refl
+      walk_is : (fs : List Field) (s : Scan) → iter (field_turn fs) (length fs) s ≡ walk end w z (fields_of fs) s
+      unfolding walk
+      walk_is [] s = refl
+      walk_is (f ∷ fs) s = iter_front (field_turn (f ∷ fs)) (length fs) s ∙ walk_is fs (walk_field end w z f s)
 
-    pub instr_is : (s : Scan) (fs : List Field) → length fs ≡ 6 → fields_of fs ≡ (form_of (peek w s)).fields → instr end w z s ≡ iter (field_turn fs) 6 (word end w opcode s)
-    unfolding instr
-    instr_is s fs n e =
-        then_is (walk end w z (form_of (peek w s)).fields) (walk_bad z w end (form_of (peek w s)).fields) (word end w opcode s)
-        ∙ ap (λ (l : List layout.Field). walk end w z l (word end w opcode s)) (sym e)
-        ∙ sym (walk_is fs (word end w opcode s))
-        ∙ ap (λ (k : ℕ). iter (field_turn fs) k (word end w opcode s)) n
+      pub instr_is : (s : Scan) (fs : List Field) → fields_of fs ≡ (form_of (peek w s)).fields → instr end w z s ≡ iter (field_turn fs) (length fs) (word end w opcode s)
+      unfolding instr
+      instr_is s fs e =
+          then_is (walk end w z (form_of (peek w s)).fields) (walk_bad z w end (form_of (peek w s)).fields) (word end w opcode s)
+          ∙ ap (λ (l : List layout.Field). walk end w z l (word end w opcode s)) (sym e)
+          ∙ sym (walk_is fs (word end w opcode s))

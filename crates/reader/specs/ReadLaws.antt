@@ -4,7 +4,7 @@ use Rattle.std.specs.Prelude.{◌≡◌, true, false, List, eqb, Option, None, S
 use Rattle.std.proofs.Math.Path.{refl, sym}
 use Rattle.std.proofs.Common.{arith}
 use borrow.Author.Tests.{eq-eqb, ne_eqb}
-use Rattle.model.specs.Basics.{◌else◌, first_some}
+use Rattle.model.specs.Basics.{◌else◌}
 use Rattle.model.specs.Laws.Lists.{none_first_some, some_first_some}
 use Rattle.model.specs.Laws.Contents.{contents_ok, Inside, inside}
 use Rattle.model.specs.Laws.Scan.{table_words_lem}

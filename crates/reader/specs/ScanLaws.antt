@@ -1,15 +1,14 @@
 -- What the code of the walk leans on: a walk that is bad stays bad, past a word, a list, and the fields of an instruction.
-use Rattle.std.specs.Prelude.{ℕ, zero, suc, ◌<◌, ◌≡◌, length, get_or, drop, Option, None, Some}
+use Rattle.std.specs.Prelude.{ℕ, zero, suc, ◌<◌, ◌≡◌, length, get_or, drop}
 use Rattle.std.proofs.Math.Path.{refl, ap}
 use Rattle.std.proofs.Common.{◌∙◌, arith, drop-cons}
-use mathlib.Core.List.{List, ◌∷◌}
-use Rattle.model.specs.Basics.{iter, found}
+use mathlib.Core.List.{List}
+use Rattle.model.specs.Basics.{iter}
 use Rattle.model.specs.Laws.Logic.{either, le_cases}
 use Rattle.model.specs.Laws.Scan.{walk_bad}
-use Rattle.model.specs.Book.Layout as layout
-use Rattle.model.specs.Book.Scan.{Draw, Scan, bad, Sizes, step, word, pair, field, walk, instr}
+use Rattle.model.specs.Book.Scan.{Draw, Scan, bad, Sizes, step, word, pair, walk, instr}
 use Rattle.instr.specs.declared.layout.Field.{Field}
-use Rattle.instr.specs.Fields.{field_of, fields_of}
+use Rattle.instr.specs.Fields.{fields_of}
 use Rattle.reader.specs.Values.{walk_field}
 
 -- a turn that is bad, and those after it
@@ -36,8 +35,4 @@ module _ (end : ℕ) (w : List ℕ) where
     -- a field that is bad, and those after it
     pub fields_stop : (fs : List Field) (i : ℕ) (d : Field) (s : Scan) → i < length fs → walk_field end w z (get_or fs i d) s ≡ bad → walk end w z (fields_of (drop i fs)) s ≡ bad
     unfolding walk
-    fields_stop fs i d s h e = rw (drop-cons fs i d) (by (field_of (get_or fs i d)) ∙ ap (walk end w z (fields_of (drop (suc i) fs))) e ∙ walk_bad z w end (fields_of (drop (suc i) fs)))
-      where
-        by : (o : Option layout.Field) → walk end w z (found o (λ g. g ∷ fields_of (drop (suc i) fs)) (λ _. fields_of (drop (suc i) fs))) s ≡ walk end w z (fields_of (drop (suc i) fs)) (found o (λ g. field end w z g s) (λ _. s))
-        by None = refl
-        by (Some g) = refl
+    fields_stop fs i d s h e = rw (drop-cons fs i d) (ap (walk end w z (fields_of (drop (suc i) fs))) e ∙ walk_bad z w end (fields_of (drop (suc i) fs)))

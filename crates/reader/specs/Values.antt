@@ -1,6 +1,5 @@
 -- The code's values as the model's.
 use Rattle.std.specs.Prelude.{ℕ, ◌≡◌, List, Option, None, Some, Result, Ok, Err}
-use Rattle.model.specs.Basics.{found}
 use Rattle.model.specs.Book.Scan as spec
 use Rattle.contents.specs.declared.Contents.{Contents}
 use Rattle.reader.specs.declared.scan.Fault.{Fault}
@@ -44,4 +43,4 @@ sizes_of z = record { tables = z.tables; counters = z.counters; rules = z.rules 
 
 -- past a field
 abbrev pub walk_field : (end : ℕ) (w : List ℕ) (z : spec.Sizes) → Field → spec.Scan → spec.Scan
-walk_field end w z f s = found (field_of f) (λ g. spec.field end w z g s) (λ _. s)
+walk_field end w z f s = spec.field end w z (field_of f) s

@@ -47,7 +47,6 @@ impl<'a> Body<'a> {
             (walk_of walk) }
     {
         match field {
-            Field::Nothing => Some(walk),
             Field::Table => self.word(Test::Below(self.sizes.tables), walk),
             Field::Counter => self.word(Test::Below(self.sizes.counters), walk),
             Field::Function => self.word(Test::Below(8), walk),
@@ -67,7 +66,7 @@ impl<'a> Body<'a> {
     {
         let fields = layout::fields(self.peek(walk));
         let mut walk = self.word(Test::Range(1, 13), walk)?;
-        for field in &fields {
+        for field in fields {
             walk = self.field(*field, walk)?;
         }
         Some(walk)

@@ -1,11 +1,12 @@
 -- A list of which the first n elements are replaced by f 0 .. f (n - 1): a loop that stores f i at i, for i from 0, takes `filled f i l` to `filled f (i + 1) l`.
-use Rattle.std.specs.Prelude.{◌≡◌, length, set, drop, take, get_or}
+use Rattle.std.specs.Prelude.{◌≡◌, length, set, drop, take, get_or, replicate}
 use Rattle.std.proofs.Math.Path.{refl, ap}
 use Rattle.std.proofs.Common.{sym, ◌∙◌, add-one, arith, length-append, length-drop, drop-cons, take_at, length-take-le, get_or-append-add, get_or-drop, ext_get_or}
 use mathlib.Core.List.{List, [], ◌∷◌, ◌++◌, append-nil}
 use Prim.Native.Nat.{ℕ, zero, suc, ◌+◌, ◌-◌, ◌*◌, ◌<◌, ◌≤◌}
 use Rattle.std.proofs.Math.Decide.{dec_lt}
 use Rattle.std.proofs.Math.ListN.{get_or-append}
+use Rattle.std.proofs.lemmas.List.{length-replicate, get_or-replicate, drop-replicate}
 use Rattle.std.proofs.Math.Seq.{drop-length, set_at, append_snoc, length_front}
 use Rattle.model.specs.Basics.{tab}
 use Rattle.model.specs.Laws.Lists.{length_tab, get_or_tab}
@@ -64,6 +65,13 @@ module _ {A : Type 0} where
     where
       at : (i : ℕ) → i < length l → get_or (filled f n l) i d ≡ f i
       at i k = elim (dec_lt i n) [ yes p ↦ get_or-append (tab f n) (drop n l) d i (omega (arith, length_tab f n)) ∙ get_or_tab f n i d p | no p ↦ get_or_past f n i l d (omega arith) ∙ rest i (omega arith) k ]
+
+  -- where f is x from n on, as many x as are left come after the first n
+  pub tab_rest : (f : ℕ → A) (n m : ℕ) (x : A) → n ≤ m → ((i : ℕ) → n ≤ i → f i ≡ x) → tab f n ++ replicate (m - n) x ≡ tab f m
+  tab_rest f n m x h rest =
+      let long = length-replicate m x in
+      rw (← drop-replicate n m x)
+      (filled_rest f n (replicate m x) x (omega arith) (λ i p q. get_or-replicate m i x x (omega arith) ∙ sym (rest i p)) ∙ ap (tab f) long)
 
   -- a turn of a loop that fills: cur is the list before the turn, and v is what is stored at i
   pub filled_turn : (f : ℕ → A) (i : ℕ) (l cur : List A) (v d : A) → cur ≡ filled f i l → v ≡ f i → i < length l → set cur i v ≡ filled f (i + 1) l

@@ -8,4 +8,4 @@ use Rattle.reader.proofs.scan.Body.instr.Given as goal
 abbrev pub invariant-loop-field : goal.invariant-loop-field
 invariant-loop-field l =
     let b = l.self in
-    walk b.end b.words.now (sizes_of b.sizes) (fields_of (drop l.field-index l.field-items)) (walk_of l.walk) ≡ instr b.end b.words.now (sizes_of b.sizes) (walk_of l.fn.walk)
+    walk b.end b.words.now (sizes_of b.sizes) (fields_of (drop l.field-index l.fields)) (walk_of l.walk) ≡ instr b.end b.words.now (sizes_of b.sizes) (walk_of l.fn.walk)
