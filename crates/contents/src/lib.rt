@@ -3,6 +3,7 @@
 
 ghost use Rattle.std.specs.Prelude.{◌≡◌, ◌&&◌, ◌+◌, ◌*◌, ◌≤◌, ◌<◌, eqb, ltb, leb, length};
 ghost use Rattle.model.specs.Book.Contents as contents;
+ghost use Rattle.model.specs.Laws.Book.{Readable};
 ghost use Rattle.contents.specs.Contents.{ContentsOf};
 ghost use Rattle.refusal.specs.Refusal.{refusal_of};
 
@@ -55,6 +56,15 @@ impl Contents {
     {
         self.first_rule() + self.rule_count()
     }
+}
+
+// A book that can be read: its words, and what they contain.
+#[derive(Clone, Copy)]
+pub struct Book<'a> {
+    pub words: &'a [u32],
+    pub contents: Contents,
+    ghost readable: { Readable words.now },
+    ghost contained: { ContentsOf words.now contents },
 }
 
 // Entries go by groups of kinds: 4 and 5, the steps, are one, and each other kind is one of its own. 0 is no kind.
@@ -141,6 +151,20 @@ pub fn of(words: &[u32]) -> Contents
         counters: members(words, n, 2),
         rules: members(words, n, 3),
         steps: members(words, n, 4),
+    }
+}
+
+impl<'a> Book<'a> {
+    // The book of words that can be read.
+    #[tactic(auto, using(model::specs::Laws::Book::few_entries))]
+    pub fn of(words: &'a [u32]) -> Self
+        requires { Readable words.now }
+        ensures { result.words.now ≡ words.now }
+    {
+        Book {
+            words,
+            contents: of(words),
+        }
     }
 }
 

@@ -16,7 +16,7 @@ mod lists;
 mod shapes;
 
 use bound_vars::Bound;
-use contents::Contents;
+use contents::{Book, Contents};
 use refusal::Refusal;
 
 // The first of these refusals that rule r draws.
@@ -52,13 +52,12 @@ pub fn check_rules(words: &[u32], contents: Contents) -> Result<(), Refusal>
 
 // Refusal 11.
 #[tactic(auto, using(contents::specs::ContentsLaws::first_step_is, model::specs::Laws::Book::step_entry, crate::specs::StepLaws::steps_stop, crate::specs::StepLaws::steps_end))]
-pub fn fit_steps(words: &[u32], contents: Contents) -> Result<(), Refusal>
-    requires { Readable words.now × ContentsOf words.now contents }
-    ensures { refusal_of result ≡ read.steps_refusal words.now }
+pub fn fit_steps(book: Book) -> Result<(), Refusal>
+    ensures { refusal_of result ≡ read.steps_refusal book.entry.words.now }
 {
-    for k in 0..contents.step_count() {
-        if !fit::step_fits(words, contents, k) {
-            return Err(Refusal::Unfit(contents.first_step() + k));
+    for k in 0..book.contents.step_count() {
+        if !fit::step_fits(book.words, book.contents, k) {
+            return Err(Refusal::Unfit(book.contents.first_step() + k));
         }
     }
     Ok(())
@@ -72,7 +71,7 @@ pub fn check_book(words: &[u32]) -> Result<(), Refusal>
 {
     let contents = contents::of(words);
     check_rules(words, contents)?;
-    fit_steps(words, contents)
+    fit_steps(Book::of(words))
 }
 
 // The first of refusals 2 to 11 of a book's words.

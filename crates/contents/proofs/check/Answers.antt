@@ -1,5 +1,5 @@
 -- The first i entries fit, and `last`, `end` and `counts` tell of them (`more_counts`); `fits` is the model's test (`entry_test`); each return has its own law.
-use Prim.Native.Nat.{ℕ, ◌+◌}
+use Prim.Native.Nat.{◌+◌}
 use mathlib.Core.Path.{◌≡◌, refl, sym, ap, ◌∙◌}
 use native.Mathlib.Numerals.{add-one}
 use native.Mathlib.Omega.{arith}

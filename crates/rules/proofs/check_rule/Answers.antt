@@ -1,6 +1,6 @@
 -- The first j instructions pass, p is the next one's place (`next_here`), `bound` what it may read (`bound_here`); one refused is `rule_stop`, none `rule_end`.
 use Prim.Native.Nat.{ℕ, ◌+◌}
-use mathlib.Core.Path.{refl, ◌≡◌, sym, ap, ◌∙◌}
+use mathlib.Core.Path.{refl, ◌≡◌, ap, ◌∙◌}
 use native.Mathlib.Omega.{arith}
 use lib.ListN.{get_or}
 use Rattle.std.specs.Prelude.{Ok, Err}

@@ -1,5 +1,5 @@
 -- By the reading: what it refuses is the whole (`words_stop`); if it passes, `check_book` is the whole (`words_on`).
-use Rattle.std.proofs.Common.{◌≡◌, ap, ◌∙◌}
+use Rattle.std.proofs.Common.{◌≡◌, ◌∙◌}
 use Rattle.std.specs.Prelude.{Some}
 use Rattle.refusal.specs.Refusal.{told, refusal_of, handed_on}
 use Rattle.rules.specs.RuleLaws.{words_stop, words_on}
