@@ -68,9 +68,9 @@ pub fn build(words: &[u32], info: TableInfo, index: &mut [u32])
 }
 
 // The first word of row p - 1 of all rows, if it is one of the table and has the key.
-#[tactic(auto, using(tables::specs::TablesLaws::row_within), unfolding(crate::specs::Index::is_row))]
-fn its_row(words: &[u32], info: TableInfo, first: usize, p: usize, key: &[u32; 16]) -> Option<usize>
-    requires { Stands words.now info × (first + info.rows ≤ 16384) }
+#[tactic(auto, using(tables::specs::TablesLaws::row_within, tables::specs::TablesLaws::same_taken), unfolding(crate::specs::Index::is_row))]
+fn its_row(words: &[u32], info: TableInfo, first: usize, p: usize, key: &[u32]) -> Option<usize>
+    requires { Stands words.now info × (first + info.rows ≤ 16384) × (info.keys ≤ length key.now) }
     ensures { MatchOption result (is_row words.now info key.now first p ≡ false)
         (λ at. (is_row words.now info key.now first p ≡ true) × (at ≡ row_at info (p - 1 - first))) }
 {
@@ -78,18 +78,12 @@ fn its_row(words: &[u32], info: TableInfo, first: usize, p: usize, key: &[u32; 1
         return None;
     }
     let at = info.at + (p - 1 - first) * info.width;
-    tables::same_words(words, at, key, info.keys).then_some(at)
+    tables::same_words(words, at, &key[..info.keys]).then_some(at)
 }
 
 // The row with the key, as `tables::find` finds it.
-fn find(
-    words: &[u32],
-    index: &[u32],
-    info: TableInfo,
-    first: usize,
-    key: &[u32; 16],
-) -> Option<usize>
-    requires { Stands words.now info × Has words.now info first index.now }
+fn find(words: &[u32], index: &[u32], info: TableInfo, first: usize, key: &[u32]) -> Option<usize>
+    requires { Stands words.now info × Has words.now info first index.now × (info.keys ≤ length key.now) }
     ensures { result ≡ found_row words.now info key.now }
 {
     let mut p = index[home(key, 0, info.keys)] as usize;
@@ -108,9 +102,9 @@ pub fn look_up_among(
     index: &[u32],
     info: TableInfo,
     first: usize,
-    key: &[u32; 16],
+    key: &[u32],
 ) -> Option<usize>
-    requires { Stands words.now info × IndexAmong words.now info first index.now }
+    requires { Stands words.now info × IndexAmong words.now info first index.now × (info.keys ≤ length key.now) }
     ensures { result ≡ found_row words.now info key.now }
 {
     if index.is_empty() {
@@ -121,8 +115,8 @@ pub fn look_up_among(
 
 // The same of a table that has the index alone.
 #[tactic(auto, using(crate::specs::BookLaws::among_alone))]
-pub fn look_up(words: &[u32], index: &[u32], info: TableInfo, key: &[u32; 16]) -> Option<usize>
-    requires { Stands words.now info × IndexOf words.now info index.now }
+pub fn look_up(words: &[u32], index: &[u32], info: TableInfo, key: &[u32]) -> Option<usize>
+    requires { Stands words.now info × IndexOf words.now info index.now × (info.keys ≤ length key.now) }
     ensures { result ≡ found_row words.now info key.now }
 {
     look_up_among(words, index, info, 0, key)

@@ -1,10 +1,16 @@
 -- Probes of an index, for any home and any question: what stands on a chain is met, and a store at the free slot that was met keeps every chain.
-use Rattle.std.specs.Prelude.{ℕ, zero, suc, ◌+◌, ◌-◌, ◌%◌, ◌<◌, ◌≡◌, refl, Bool, true, false, List, ◌⊎◌, eqb, ltb, length, get_or, set}
+use Rattle.std.specs.Prelude.{ℕ, zero, suc, ◌+◌, ◌-◌, ◌%◌, ◌<◌, ◌≤◌, ◌≡◌, refl, Bool, true, false, ◌&&◌, List, ◌⊎◌, eqb, ltb, leb, length, get_or, take, set}
 use Rattle.std.proofs.Common.{sym, ap, ◌∙◌, inl, inr, ⊎_elim, arith, get_or-set_same, get_or-set_other, ne_eqb, eq-eqb, eqb-true, ltb-true}
 use Rattle.std.proofs.lemmas.Bool.{eqb-false}
 use Rattle.std.proofs.lemmas.Bool.Decides.{nat_tests}
+use Rattle.std.proofs.Math.Seq.{length-take-le}
+use Rattle.model.specs.Basics.{eq_list}
+use Rattle.model.specs.Book.Decode.{part}
+use Rattle.tables.specs.Tables.{front, same_words}
+use Rattle.tables.specs.TablesLaws.{front_taken}
+use Rattle.predicted_index.specs.declared.Slot.{Slot}
 use Rattle.predicted_index.specs.declared.Slot.TheVariants.{Hit, Free, Full}
-use Rattle.predicted_index.specs.Index.{after, slot_from, probed, Chain}
+use Rattle.predicted_index.specs.Index.{after, slot_from, probed, answers, slot_of, Chain}
 
 pub bool_cases : (b : Bool) → (b ≡ true) ⊎ (b ≡ false)
 bool_cases true = inl refl
@@ -43,6 +49,15 @@ module _ (ix : List ℕ) (m : ℕ → Bool) (f s : ℕ) where
   pub turn_on : (get_or ix s 0 ≡ 0 → ⊥) → m (get_or ix s 0) ≡ false → probed ix m (suc f) s ≡ probed ix m f (after s)
   unfolding probed
   turn_on b n = rw (ne_eqb _ _ b, n)
+
+-- ## A key cut to its words
+
+pub slot_of_taken : (home : ℕ → List ℕ → ℕ) (ix log : List ℕ) (t : ℕ) (key : List ℕ) (k : ℕ) → k ≤ length key → slot_of home ix log t (take k key) (length (take k key)) ≡ slot_of home ix log t key k
+unfolding slot_of answers same_words
+slot_of_taken home ix log t key k h =
+    let n : length (take k key) ≡ k = length-take-le k key h in
+    let found : ℕ → List ℕ → Slot = λ m f. probed ix (λ v. leb (v + 1 + m) (length log) && eqb (get_or log v 0) t && eq_list (part log (v + 1) m) f) 8192 (home t f) in
+    ap (found (length (take k key))) (front_taken key k h) ∙ ap (λ (m : ℕ). found m (front key k)) n
 
 -- ## The turns of the loop that probes, with n - j slots left
 

@@ -5,7 +5,6 @@
 mod row;
 
 ghost use Rattle.std.specs.Prelude.{◌≡◌, ◌+◌, ◌≤◌, ◌<◌, length, set};
-ghost use Rattle.tables.specs.Tables.{front};
 ghost use Rattle.predicted_index.specs.Home.{home_of};
 ghost use Rattle.predicted_index.specs.Index.{answers, slot_of, Small};
 
@@ -20,11 +19,10 @@ pub enum Slot {
 }
 
 // The slot from which a key of a table is looked for: the high 13 bits of the table's number and the key's words, folded. The laws of the index hold for any other.
-fn home_of(table: ids::TableId, key: &[u32; 16], k: usize) -> usize
-    requires { k ≤ 16 }
-    ensures { (result ≡ home_of table.0 (front key.now k)) × (result < 8192) }
+fn home_of(table: ids::TableId, key: &[u32]) -> usize
+    ensures { (result ≡ home_of table.0 key.now) × (result < 8192) }
 {
-    let h = key[..k]
+    let h = key
         .iter()
         .fold(hash_index::mix(0, table.0), |h, x| hash_index::mix(h, *x));
     (h / 524288) as usize
@@ -32,28 +30,28 @@ fn home_of(table: ids::TableId, key: &[u32; 16], k: usize) -> usize
 
 // Whether v, a place plus 1, stands for a record of this table whose words begin with the key.
 #[tactic(auto, unfolding(crate::specs::Index::answers))]
-fn matches(log: &[u32], table: ids::TableId, key: &[u32; 16], k: usize, v: usize) -> bool
-    requires { (k ≤ 16) × (v < 4294967296) }
-    ensures { result ≡ answers log.now table.0 key.now k v }
+fn matches(log: &[u32], table: ids::TableId, key: &[u32], v: usize) -> bool
+    requires { (length key.now ≤ 16) × (v < 4294967296) }
+    ensures { result ≡ answers log.now table.0 key.now (length key.now) v }
 {
-    v + 1 + k <= log.len() && log[v] == table.0 && tables::same_words(log, v + 1, key, k)
+    v + 1 + key.len() <= log.len() && log[v] == table.0 && tables::same_words(log, v + 1, key)
 }
 
-// Where the predicted row of a key of k words stands in the log, or would stand in the index; past the end of an index there are free slots.
-#[tactic(auto, using(crate::specs::IndexLaws::probing), unfolding(crate::specs::Index::slot_of))]
-pub fn get(index: &[u32], log: &[u32], table: ids::TableId, key: &[u32; 16], k: usize) -> Slot
-    requires { k ≤ 16 }
-    ensures is { result ≡ slot_of home_of index.now log.now table.0 key.now k }
+// Where the predicted row of a key stands in the log, or would stand in the index; past the end of an index there are free slots.
+#[tactic(auto, using(crate::specs::IndexLaws::probing, tables::specs::TablesLaws::front_all), unfolding(crate::specs::Index::slot_of))]
+pub fn get(index: &[u32], log: &[u32], table: ids::TableId, key: &[u32]) -> Slot
+    requires { length key.now ≤ 16 }
+    ensures is { result ≡ slot_of home_of index.now log.now table.0 key.now (length key.now) }
     ensures small { Small result }
 {
-    let home = home_of(table, key, k);
+    let home = home_of(table, key);
     for j in 0..8192 {
         let s = (home + j) % 8192;
         let v = words::size_at(index, s);
         if v == 0 {
             return Slot::Free(s);
         }
-        if matches(log, table, key, k, v) {
+        if matches(log, table, key, v) {
             return Slot::Hit(v - 1);
         }
     }

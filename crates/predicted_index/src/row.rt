@@ -1,5 +1,5 @@
 // The row of a key, as a part of the words that hold it: of the book's where it is committed, of the log's where it is predicted.
-ghost use Rattle.std.specs.Prelude.{◌≡◌, ◌≤◌};
+ghost use Rattle.std.specs.Prelude.{◌≡◌, ◌≤◌, length};
 ghost use Rattle.predicted_index.specs.Home.{home_of};
 ghost use Rattle.predicted_index.specs.Index.{slot_of};
 ghost use Rattle.predicted_index.specs.Row.{sought_in, Searchable, predicted_part, row_of};
@@ -30,9 +30,9 @@ impl Sought {
 }
 
 // The predicted row with the key, or no words.
-#[tactic(auto, using(crate::specs::RowLaws::none_sought))]
-fn in_log<'a>(log: &'a [u32], index: &[u32], of: Sought, key: &[u32; 16]) -> &'a [u32]
-    requires { of.info.keys ≤ 16 }
+#[tactic(auto, using(crate::specs::RowLaws::none_sought, crate::specs::IndexLaws::slot_of_taken))]
+fn in_log<'a>(log: &'a [u32], index: &[u32], of: Sought, key: &[u32]) -> &'a [u32]
+    requires { (of.info.keys ≤ 16) × (of.info.keys ≤ length key.now) }
     ensures { result.now ≡ predicted_part log.now of.info.width
         (slot_of home_of index.now log.now of.table.0 key.now
         of.info.keys) }
@@ -41,7 +41,7 @@ fn in_log<'a>(log: &'a [u32], index: &[u32], of: Sought, key: &[u32; 16]) -> &'a
     if index.is_empty() {
         return &log[..0];
     }
-    match crate::get(index, log, of.table, key, of.info.keys) {
+    match crate::get(index, log, of.table, &key[..of.info.keys]) {
         Slot::Hit(p) => words::part(log, p + 2, of.info.width),
         Slot::Free(_) | Slot::Full => &log[..0],
     }
@@ -55,9 +55,9 @@ pub fn row_of<'a>(
     chains: &[u32],
     index: &[u32],
     of: Sought,
-    key: &[u32; 16],
+    key: &[u32],
 ) -> &'a [u32]
-    requires { Searchable words.now chains.now of }
+    requires { Searchable words.now chains.now of × (of.info.keys ≤ length key.now) }
     ensures { result.now ≡ row_of home_of words.now log.now index.now of key.now }
 {
     match hash_index::look_up_among(words, chains, of.info, of.first, key) {

@@ -19,6 +19,7 @@ use Rattle.model.specs.Answer.{record_words}
 use Rattle.model.specs.Book.Decode.{part}
 use Rattle.model.specs.Laws.Logic.{none_some, some_inj}
 use Rattle.model.specs.Laws.Lists.{length_tab}
+use Rattle.tables.specs.TablesLaws.{front_taken}
 use Rattle.record_log.specs.Log.{record_of, appended, stored, log_of, place_of}
 
 -- ## What the code leans on
@@ -43,6 +44,10 @@ module _ (kind table : ℕ) (row : List ℕ) (n : ℕ) where
   store_record log used =
       let e : used + 2 ≡ suc (suc used) = omega arith in
       rw (e, add-one)
+
+-- a row cut to its words
+pub record_of_taken : (kind table : ℕ) (row : List ℕ) (n : ℕ) → n ≤ length row → record_of kind table (take n row) (length (take n row)) ≡ record_of kind table row n
+record_of_taken kind table row n h = ap (λ (l : List ℕ). kind ∷ table ∷ l) (front_taken row n h)
 
 module _ (log : List ℕ) (used : ℕ) (r : List ℕ) where
   pub no_room : length log < used + length r → (None ≡ appended log used r) × (log ≡ stored log used r)

@@ -8,25 +8,18 @@ ghost use Rattle.record_log.specs.Walk.{end_of};
 use ids::TableId;
 
 // A record of kind 0 (insert), 1 (removal) or 2 (predicted row), past the words that are used. Nothing is written where it has no room.
-pub fn append(
-    log: &mut [u32],
-    used: usize,
-    kind: u32,
-    table: TableId,
-    row: &[u32; 16],
-    count: usize,
-) -> Option<usize>
-    requires { (used ≤ length log.old) × (count ≤ 16) }
-    ensures answer { result ≡ appended log.old used (record_of kind table.0 row.now count) }
-    ensures log { log.new ≡ stored log.old used (record_of kind table.0 row.now count) }
+pub fn append(log: &mut [u32], used: usize, kind: u32, table: TableId, row: &[u32]) -> Option<usize>
+    requires { (used ≤ length log.old) × (length row.now ≤ 16) }
+    ensures answer { result ≡ appended log.old used (record_of kind table.0 row.now (length row.now)) }
+    ensures log { log.new ≡ stored log.old used (record_of kind table.0 row.now (length row.now)) }
 {
-    let end = used + 2 + count;
+    let end = used + 2 + row.len();
     if log.len() < end {
         return None;
     }
     log[used] = kind;
     log[used + 1] = table.0;
-    log[used + 2..end].copy_from_slice(&row[..count]);
+    log[used + 2..end].copy_from_slice(row);
     Some(end)
 }
 

@@ -7,7 +7,7 @@ use Rattle.std.proofs.Math.Bool.{true, false}
 use mathlib.Core.List.{List, [], ◌∷◌, ◌++◌}
 use native.Mathlib.Omega.{arith}
 use Rattle.std.proofs.Math.ListN.{length, get_or, length-drop}
-use Rattle.std.proofs.Math.Seq.{length-take-le}
+use Rattle.std.proofs.Math.Seq.{length-take-le, take-length}
 use Rattle.model.specs.Basics.{eq_list, found, only, least, tab}
 use Rattle.model.specs.Book.Syntax.{width}
 use Rattle.model.specs.Book.Scan.{Sizes}
@@ -28,6 +28,19 @@ front_take key k h =
     let n : length (take k key) ≡ k = length-take-le k key h in
     ext_get_or 0 (front key k) (take k key) (length_tab (λ i. get_or key i 0) k ∙ sym n)
     (λ i l. let m : i < k = omega (arith, length_tab (λ i. get_or key i 0) k) in get_or_tab (λ i. get_or key i 0) k i 0 m ∙ sym (get_or-take k key i 0 m))
+
+pub front_all : (key : List ℕ) → front key (length key) ≡ key
+front_all key = front_take key (length key) (omega arith) ∙ take-length key
+
+-- a key cut to its words
+pub front_taken : (key : List ℕ) (k : ℕ) → k ≤ length key → front (take k key) (length (take k key)) ≡ front key k
+front_taken key k h = front_all (take k key) ∙ sym (front_take key k h)
+
+pub same_taken : (w : List ℕ) (at : ℕ) (key : List ℕ) (k : ℕ) → k ≤ length key → same_words w at (take k key) (length (take k key)) ≡ same_words w at key k
+unfolding same_words
+same_taken w at key k h =
+    let n : length (take k key) ≡ k = length-take-le k key h in
+    ap (eq_list (part w at (length (take k key)))) (front_taken key k h) ∙ ap (λ (x : ℕ). eq_list (part w at x) (front key k)) n
 
 -- a key that was copied into an array
 pub key_front : (row : List ℕ) (k : ℕ) → k ≤ length row → k ≤ 16 → front (filled (λ i. get_or row i 0) k (replicate 16 0)) k ≡ take k row

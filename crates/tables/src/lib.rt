@@ -1,9 +1,8 @@
 // The tables of a book: their sizes, and their rows by key.
 #![tactic(auto)]
 
-ghost use Rattle.std.specs.Prelude.{◌≡◌, ◌+◌, ◌^◌, ◌≤◌, ◌<◌, length, get_or, replicate};
+ghost use Rattle.std.specs.Prelude.{◌≡◌, ◌+◌, ◌^◌, ◌≤◌, ◌<◌, length};
 ghost use Rattle.model.specs.Book.Contents.{first_of};
-ghost use Rattle.words.specs.Filled.{filled};
 ghost use Rattle.tables.specs.Tables.{info_at, info_of, same_words, Stands, found_row};
 
 // A table's key count, the words of a row, its merge rule, its row count, and the word of its first row.
@@ -52,33 +51,24 @@ pub fn rows_of(words: &[u32], t: ids::TableId) -> usize
     words::size_at(words, body_of(words, t) + 3)
 }
 
-// The first k words of a row.
-pub fn key_of(row: &[u32], k: usize) -> [u32; 16]
-    requires { (k ≤ length row.now) × (k ≤ 16) }
-    ensures { result ≡ filled (λ i. get_or row.now i 0) k (replicate 16 0) }
+// Whether the words from `at` on are the key. Compared by place: `starts_with` and `==` of slices take more instructions for the few words of a key.
+pub fn same_words(rows: &[u32], at: usize, key: &[u32]) -> bool
+    requires { at + length key.now ≤ length rows.now }
+    ensures { result ≡ same_words rows.now at key.now (length key.now) }
 {
-    let mut key = [0; 16];
-    key[..k].copy_from_slice(&row[..k]);
-    key
-}
-
-// Whether the k words from `at` on are the first k of the key.
-pub fn same_words(rows: &[u32], at: usize, key: &[u32; 16], k: usize) -> bool
-    requires { (at + k ≤ length rows.now) × (k ≤ 16) }
-    ensures { result ≡ same_words rows.now at key.now k }
-{
-    (0..k).all(|i| rows[at + i] == key[i])
+    (0..key.len()).all(|i| rows[at + i] == key[i])
 }
 
 // The committed row with the key.
 #[tactic(auto, using(crate::specs::TablesLaws::found_nothing))]
-pub fn find(words: &[u32], info: TableInfo, key: &[u32; 16]) -> Option<usize>
-    requires { Stands words.now info }
+pub fn find(words: &[u32], info: TableInfo, key: &[u32]) -> Option<usize>
+    requires { Stands words.now info × (info.keys ≤ length key.now) }
     ensures { result ≡ found_row words.now info key.now }
 {
+    let key = &key[..info.keys];
     for i in 0..info.rows {
         let at = info.at + i * info.width;
-        if same_words(words, at, key, info.keys) {
+        if same_words(words, at, key) {
             return Some(at);
         }
     }

@@ -14,7 +14,7 @@ pub loop-p-init : goal.loop-p-init
 loop-p-init c =
     let h = c.requires.1 in
     let a = c.args in
-    (h, rw (c.size-p.ensures.0, c.home.ensures.0) (reached_head a.words.now a.info a.key.now a.first a.index.now h))
+    (h, rw c.home.ensures.0 (reached_head a.words.now a.info a.key.now a.first a.index.now h))
 
 pub returns-in-Some : goal.returns-in-Some
 returns-in-Some c =
@@ -36,14 +36,14 @@ loop-p-smaller c =
     let a = c.args in
     let l = c.loop-p in
     let s = standing a.words.now a.info a.key.now a.first a.index.now l.invariant.0 l.p l.invariant.1 c.loop-p-test.true in
-    rw c.size-p-in-loop-p.ensures.0 s.less
+    s.less
 
 pub loop-p-preserved : goal.loop-p-preserved
 loop-p-preserved c =
     let a = c.args in
     let l = c.loop-p in
     let s = standing a.words.now a.info a.key.now a.first a.index.now l.invariant.0 l.p l.invariant.1 c.loop-p-test.true in
-    (l.invariant.0, rw c.size-p-in-loop-p.ensures.0 (s.on c.in_default.ensures))
+    (l.invariant.0, s.on c.in_default.ensures)
 
 pub returns : goal.returns
 returns c =

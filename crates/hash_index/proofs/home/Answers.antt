@@ -12,5 +12,5 @@ unfolding home_of
 returns c =
     let a = c.args in
     let h : c.fold-h.result ≡ fold mixed 0 (take a.k (drop a.at a.words.now)) = search rules in
-    let e : c.size.result ≡ home_at a.words.now a.at a.k = c.size.ensures.0 ∙ ap (λ (x : ℕ). x / 4194304) (h ∙ folded_is 0 _ ∙ ap (folded 0) (words_at a.words.now a.at a.k c.requires)) in
+    let e : c.fold-h.result / 4194304 ≡ home_at a.words.now a.at a.k = ap (λ (x : ℕ). x / 4194304) (h ∙ folded_is 0 _ ∙ ap (folded 0) (words_at a.words.now a.at a.k c.requires)) in
     (e, rw e (home_below _))

@@ -5,4 +5,4 @@ use Rattle.tables.specs.Tables.{same_words, row_at}
 use Rattle.tables.proofs.find.Given as goal
 
 abbrev pub invariant-loop-i : goal.invariant-loop-i
-invariant-loop-i l = (j : ℕ) → j < l.i → same_words l.words (row_at l.info j) l.key l.info.keys ≡ false
+invariant-loop-i l = (j : ℕ) → j < l.i → same_words l.words (row_at l.info j) l.fn.key l.info.keys ≡ false

@@ -21,5 +21,6 @@ module _ (w : List ℕ) (at : ℕ) (key : List ℕ) (k : ℕ) (fits : at + k ≤
 pub returns : goal.returns
 returns c =
     let a = c.args in
-    let same : ℕ → Type 0 = Same a.rows.now a.at a.key.now a.k c.requires.0 in
-    decided a.rows.now a.at a.key.now a.k c.requires.0 _ (cases_from_all _ _ _ same (λ i. same i → ⊥) c.all.ensures.ran (YieldsList-from_range 0 a.k a.k (cc) (omega arith)) (λ x q k. search (rules, tests)) (λ x q k. search (rules, tests)))
+    let k : ℕ = length a.key.now in
+    let same : ℕ → Type 0 = Same a.rows.now a.at a.key.now k c.requires in
+    decided a.rows.now a.at a.key.now k c.requires _ (cases_from_all _ _ _ same (λ i. same i → ⊥) c.all.ensures.ran (YieldsList-from_range 0 k k (cc) (omega arith)) (λ x q k. search (rules, tests)) (λ x q k. search (rules, tests)))
