@@ -9,15 +9,10 @@ use Rattle.model.specs.Commit.{merge_words}
 use Rattle.words.specs.Filled.{filled}
 use Rattle.tables.specs.declared.TableInfo.{TableInfo}
 use Rattle.tables.specs.Tables.{Stands, front, same_words, row_at, found_row}
-use Rattle.tables.specs.TablesLaws.{front_take, key_front, next_row}
+use Rattle.tables.specs.TablesLaws.{front_take, found_same, key_front, next_row}
 use Rattle.commit.specs.Rows.{Rows, Sound, Stand, onto, grown, overrun, new_info, appended, put_at, put_row}
 
 -- ## A key in an array
-
--- a search goes by the key's words alone
-found_same : (w : List ℕ) (t : TableInfo) (a b : List ℕ) → front a t.keys ≡ front b t.keys → found_row w t a ≡ found_row w t b
-unfolding found_row same_words
-found_same w t a b e = ap (λ (key : List ℕ). found (least (λ i. eq_list (part w (row_at t i) t.keys) key) t.rows) (λ i. Some (row_at t i)) (λ _. None)) e
 
 pub key_found : (w : List ℕ) (t : TableInfo) (row key : List ℕ) → key ≡ filled (λ i. get_or row i 0) t.keys (replicate 16 0) → t.keys ≤ length row → t.keys ≤ 16 → found_row w t row ≡ found_row w t key
 key_found w t row key e h l = found_same w t row key (front_take row t.keys h ∙ sym (ap (λ (x : List ℕ). front x t.keys) e ∙ key_front row t.keys h l))

@@ -76,8 +76,7 @@ fn keep_row(
     ensures { as_rows rows.new part.new ≡ spare_row gone.now removed row.now
         (as_rows rows.old part.old) }
 {
-    let key = tables::key_of(row, removed.keys);
-    match hash_index::look_up(gone, index, removed, &key) {
+    match hash_index::look_up(gone, index, removed, &row[..removed.keys]) {
         Some(_) => {}
         None => rows::append(rows, part, row),
     }

@@ -46,8 +46,9 @@ pub fn table_of(info: TableInfo, part: Part) -> TableInfo
 }
 
 // The row with the key, by the index of the rows; an empty index is none, and all rows are looked at.
-fn find(rows: &[u32], index: &[u32], part: Part, info: TableInfo, key: &[u32; 16]) -> Option<usize>
-    requires { Sound info × Stand info.width (as_rows rows.now part) × IndexedRows info (as_rows rows.now part) index.now }
+fn find(rows: &[u32], index: &[u32], part: Part, info: TableInfo, key: &[u32]) -> Option<usize>
+    requires { Sound info × Stand info.width (as_rows rows.now part) × IndexedRows info (as_rows rows.now part) index.now
+        × (info.keys ≤ length key.now) }
     ensures { result ≡ found_row rows.now (new_info info part) key.now }
 {
     hash_index::look_up(rows, index, table_of(info, part), key)
@@ -76,8 +77,7 @@ pub fn put(rows: &mut [u32], index: &mut [u32], part: &mut Part, info: TableInfo
     ensures index { index.new ≡ index_for info (as_rows rows.new part.new) (length index.old) }
 {
     let k = info.keys;
-    let key = tables::key_of(row, k);
-    match find(rows, index, *part, info, &key) {
+    match find(rows, index, *part, info, &row[..k]) {
         Some(p) => merge::merge_words(rows, p + k, &row[k..], info.merge),
         None => append_noted(rows, index, part, info, row),
     }

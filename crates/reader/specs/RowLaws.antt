@@ -1,10 +1,9 @@
 -- What the code of repeated keys leans on: refusal 5 from the first rows that have each row's key.
-use Rattle.std.specs.Prelude.{ℕ, ◌+◌, ◌-◌, ◌*◌, ◌<◌, ◌≤◌, ◌≡◌, refl, ◌≢◌, Bool, true, false, List, [], ltb, length, get_or, take, drop, replicate, Option, None, Some}
+use Rattle.std.specs.Prelude.{ℕ, ◌+◌, ◌*◌, ◌<◌, ◌≤◌, ◌≡◌, refl, ◌≢◌, Bool, true, false, List, [], ltb, length, get_or, take, drop, Option, None, Some}
 use Rattle.std.proofs.Math.Path.{sym}
 use Rattle.std.proofs.Common.{ap, ◌∙◌, subst, mul-le-mul_right, arith, take-take, lt-ltb, le-ltb}
 use Rattle.std.proofs.Math.Bool.{true≢false}
 use Rattle.std.proofs.Math.Decide.{dec_lt}
-use Rattle.std.proofs.Math.Nat.{add-sub_cancel_left}
 use Rattle.model.specs.Laws.Logic.{eq_list_eq, eq_eq_list}
 use Rattle.model.specs.Laws.Lists.{length_tab, get_or_tab, none_least, some_least}
 use Rattle.model.specs.Laws.Rows.{repeat_true, repeat_false}
@@ -12,10 +11,9 @@ use Rattle.model.specs.Claims.Refusals.{Repeats}
 use Rattle.model.specs.Book.Words.{Refusal}
 use Rattle.model.specs.Book.Decode.{part, read_table}
 use Rattle.model.specs.Book.Read.{is_repeat, rows_refusal}
-use Rattle.words.specs.Filled.{filled}
 use Rattle.tables.specs.declared.TableInfo.{TableInfo}
 use Rattle.tables.specs.Tables.{info_at, front, same_words, row_at, found_row, RowsStand}
-use Rattle.tables.specs.TablesLaws.{key_part, row_within, found_first, missing_all}
+use Rattle.tables.specs.TablesLaws.{row_within, found_first, missing_all}
 use Rattle.reader.specs.Places.{rows_of, RowAt}
 
 module _ {w : List ℕ} {t : TableInfo} (ok : RowsStand w t) where
@@ -63,12 +61,10 @@ module _ {w : List ℕ} {t : TableInfo} (ok : RowsStand w t) where
         by false q = refl
         by true q = absurd (clash (repeat_true t.keys rows i (omega (arith, rows_length_lem)) q))
 
-  -- ## The first row with the key of row i, which was copied from the row
-  module _ (i own : ℕ) (r : RowAt t i own) (key : List ℕ) (copied : key ≡ filled (λ j. get_or (part w own (own + t.width - own)) j 0) t.keys (replicate 16 0)) where
+  -- ## The first row with the key of row i
+  module _ (i own : ℕ) (r : RowAt t i own) (key : List ℕ) (starts : front key t.keys ≡ part w own t.keys) where
     its_key : front key t.keys ≡ key_at i
-    its_key =
-        key_part w own t.width t.keys key (copied ∙ ap (λ (n : ℕ). filled (λ j. get_or (part w own n) j 0) t.keys (replicate 16 0)) (add-sub_cancel_left own t.width)) ok.stands.keys (omega (arith, row_fit i r.below, r.is_own)) ok.stands.few
-        ∙ ap (λ (p : ℕ). part w p t.keys) r.is_own
+    its_key = starts ∙ ap (λ (p : ℕ). part w p t.keys) r.is_own
 
     abbrev has : ℕ → Bool
     has j = same_words w (row_at t j) key t.keys

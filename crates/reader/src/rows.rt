@@ -14,9 +14,7 @@ fn is_repeat(words: &[u32], index: &[u32], info: TableInfo, own: usize) -> bool
     requires { RowsStand words.now info × IndexOf words.now info index.now × (own + info.width ≤ length words.now) }
     ensures { (i : ℕ) → RowAt info i own → result ≡ is_repeat info.keys (rows_of words.now info) i }
 {
-    let width = info.width;
-    let key = tables::key_of(&words[own..own + width], info.keys);
-    match hash_index::look_up(words, index, info, &key) {
+    match hash_index::look_up(words, index, info, &words[own..own + info.keys]) {
         Some(p) => p < own,
         None => false,
     }

@@ -42,6 +42,14 @@ same_taken w at key k h =
     let n : length (take k key) ≡ k = length-take-le k key h in
     ap (eq_list (part w at (length (take k key)))) (front_taken key k h) ∙ ap (λ (x : ℕ). eq_list (part w at x) (front key k)) n
 
+-- a search goes by the key's words alone
+pub found_same : (w : List ℕ) (t : TableInfo) (a b : List ℕ) → front a t.keys ≡ front b t.keys → found_row w t a ≡ found_row w t b
+unfolding found_row same_words
+found_same w t a b e = ap (λ (key : List ℕ). found (least (λ i. eq_list (part w (row_at t i) t.keys) key) t.rows) (λ i. Some (row_at t i)) (λ _. None)) e
+
+pub found_taken : (w : List ℕ) (t : TableInfo) (row : List ℕ) → t.keys ≤ length row → found_row w t (take t.keys row) ≡ found_row w t row
+found_taken w t row h = found_same w t (take t.keys row) row (ap (front (take t.keys row)) (sym (length-take-le t.keys row h)) ∙ front_taken row t.keys h)
+
 -- a key that was copied into an array
 pub key_front : (row : List ℕ) (k : ℕ) → k ≤ length row → k ≤ 16 → front (filled (λ i. get_or row i 0) k (replicate 16 0)) k ≡ take k row
 key_front row k h l =

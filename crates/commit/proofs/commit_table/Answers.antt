@@ -36,4 +36,4 @@ overflow_cast-done c =
 
 pub returns-clause-rows : goal.returns-clause-rows
 unfolding table_committed
-returns-clause-rows c = rw c.size.ensures.0 (ap (ended c.args.t.0 (as_left c.args.rows.now c.args.done.now)) (all_is (goal.at.returns-clause-rows c).After-insert_rows))
+returns-clause-rows c = ap (ended c.args.t.0 (as_left c.args.rows.now c.args.done.now)) (all_is (goal.at.returns-clause-rows c).After-insert_rows)

@@ -1,18 +1,16 @@
--- By what was found: a search by the copied key finds what one by the row does (`key_found`), so the two arms are the cases of `spare_row`.
+-- By what was found: a search by the row's key finds what one by the row does (`found_taken`), so the two arms are the cases of `spare_row`.
 use mathlib.Core.Path.{◌≡◌, sym, ◌∙◌}
 use Rattle.tables.specs.Tables.{found_row}
-use Rattle.commit.specs.RowLaws.{key_found}
+use Rattle.tables.specs.TablesLaws.{found_taken}
 use Rattle.commit.specs.Commit.{spare_row}
 use Rattle.commit.proofs.removals.keep_row.Goals as goal
 use Rattle.commit.proofs.removals.keep_row.Goals.{After-look_up}
 
--- what is found by the row's key
+-- what is found by the row
 found_is : (c : After-look_up) → found_row c.args.gone.now c.args.removed c.args.row.now ≡ c.look_up.result
 found_is c =
-    let pre = c.requires in
-    let key_of = c.key_of-key in
     let a = c.args in
-    key_found a.gone.now a.removed a.row.now key_of.result key_of.ensures pre.2 pre.0.few ∙ sym c.look_up.ensures
+    sym (found_taken a.gone.now a.removed a.row.now c.requires.2) ∙ sym c.look_up.ensures
 
 pub returns-in-Some : goal.returns-in-Some
 unfolding spare_row

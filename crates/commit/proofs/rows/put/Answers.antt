@@ -5,10 +5,9 @@ use lib.Seq.{take_all}
 use mathlib.Core.Path.{◌≡◌, sym, ap, ◌∙◌}
 use native.Mathlib.Omega.{arith}
 use lib.ListN.{length, take, drop, length-take, length-drop}
-use Rattle.tables.specs.TablesLaws.{found_within}
+use Rattle.tables.specs.TablesLaws.{found_within, found_taken}
 use Rattle.commit.specs.Rows.{Rows, new_info, merged_at, put_row}
 use Rattle.commit.specs.Indexed.{index_for}
-use Rattle.commit.specs.RowLaws.{key_found}
 use Rattle.commit.specs.IndexedLaws.{merge_indexed}
 use Rattle.commit.proofs.rows.put.Goals as goal
 use Rattle.commit.proofs.rows.put.Goals.{In-Some}
@@ -17,10 +16,9 @@ use Rattle.commit.proofs.rows.put.Goals.{In-Some}
 within : (c : In-Some) → c.in-Some.p + c.args.info.width ≤ length c.args.rows.now
 within c =
     let pre = c.requires in
-    let key_of = c.key_of-key in
     let a = c.args in
     let st = pre.1 in
-    omega (arith, found_within a.rows.now (new_info a.info a.part.now) key_of.result c.in-Some.p (sym c.find.ensures ∙ c.in-Some.is), st.used, st.within)
+    omega (arith, found_within a.rows.now (new_info a.info a.part.now) (take a.info.keys a.row.now) c.in-Some.p (sym c.find.ensures ∙ c.in-Some.is), st.used, st.within)
 
 pub overflow_add-p : goal.overflow_add-p
 overflow_add-p c =
@@ -36,7 +34,6 @@ merge_words-requires c =
 pub returns-in-Some : goal.returns-in-Some
 unfolding put_row
 returns-in-Some c =
-    let key_of = c.key_of-key in
     let find = c.find in
     let merging = c.merge_words in
     let a = c.args in
@@ -45,19 +42,18 @@ returns-in-Some c =
     let row = a.row.now in
     let s : Rows = record { words = a.rows.now; part = a.part.now } in
     let at = sym find.ensures ∙ c.in-Some.is in
-    let e = key_found a.rows.now (new_info a.info a.part.now) row key_of.result key_of.ensures (omega (arith, pre.0.keys, pre.3)) pre.0.few ∙ at in
+    let e = sym (found_taken a.rows.now (new_info a.info a.part.now) row (omega (arith, pre.0.keys, pre.3))) ∙ at in
     let r : take (length row - k) (drop k row) ≡ drop k row = take_all (length row - k) (drop k row) (omega (arith, length-drop k row)) in
     let m : ◌≡◌ {A = Rows} (record { words = merging.new.rows; part = a.part.now }) (merged_at a.info row c.in-Some.p s) = rw (← r) (ap (λ (x : List ℕ). record { words = x; part = a.part.now }) merging.ensures) in
-    record { rows = rw e m; index = pre.2.is ∙ merge_indexed a.info pre.0 row pre.3 s pre.1 key_of.result c.in-Some.p at (length a.index.now) ∙ ap (λ (x : Rows). index_for a.info x (length a.index.now)) (sym m) }
+    record { rows = rw e m; index = pre.2.is ∙ merge_indexed a.info pre.0 row pre.3 s pre.1 (take a.info.keys a.row.now) c.in-Some.p at (length a.index.now) ∙ ap (λ (x : Rows). index_for a.info x (length a.index.now)) (sym m) }
 
 pub returns-in-None : goal.returns-in-None
 unfolding put_row
 returns-in-None c =
-    let key_of = c.key_of-key in
     let find = c.find in
     let append-noted = c.append_noted in
     let a = c.args in
     let pre = c.requires in
     let r = append-noted.ensures in
-    let e = key_found a.rows.now (new_info a.info a.part.now) a.row.now key_of.result key_of.ensures (omega (arith, pre.0.keys, pre.3)) pre.0.few ∙ sym find.ensures ∙ c.in-None.is in
+    let e = sym (found_taken a.rows.now (new_info a.info a.part.now) a.row.now (omega (arith, pre.0.keys, pre.3))) ∙ sym find.ensures ∙ c.in-None.is in
     record { rows = rw e r.rows; index = r.index }
