@@ -6,7 +6,6 @@ pub mod MergeRule
 pub mod MergeLaws
 pub mod RowLaws
 pub mod IndexedLaws
-pub mod Places
 pub mod WalkLaws
 pub mod KeyLaws
 pub mod TableLaws

@@ -3,12 +3,11 @@ use Rattle.std.specs.Prelude.{ℕ, ◌+◌, ◌<◌, ◌≤◌, ◌≡◌, refl,
 use Rattle.std.proofs.Common.{sym, ap, ◌∙◌, mul-le-mul_left, mul-one, arith, leb-true, length-append, length-drop, take_at, drop-drop}
 use Rattle.std.proofs.Math.Seq.{paste, take-length, drop-append-add, length-sets}
 use Rattle.std.proofs.lemmas.List.Edits.{length-paste}
-use Rattle.model.specs.Basics.{eq_list, found, least}
 use Rattle.model.specs.Book.Decode.{part}
 use Rattle.model.specs.Commit.{merge_words}
 use Rattle.words.specs.Filled.{filled}
 use Rattle.tables.specs.declared.TableInfo.{TableInfo}
-use Rattle.tables.specs.Tables.{Stands, front, same_words, row_at, found_row}
+use Rattle.tables.specs.Tables.{Stands, front, found_row}
 use Rattle.tables.specs.TablesLaws.{front_take, found_same, key_front, next_row}
 use Rattle.commit.specs.Rows.{Rows, Sound, Stand, onto, grown, overrun, new_info, appended, put_at, put_row}
 

@@ -7,10 +7,10 @@ ghost use Rattle.record_log.specs.Walk.{is_removal};
 ghost use Rattle.commit.specs.Walk.{any_removal, store_turn, removed_keys, laid_onto, gone_after, as_keys};
 ghost use Rattle.commit.specs.Commit.{kept, spare_row, spared};
 
-use crate::records::Places;
 use crate::rows;
 use crate::rows::Part;
 use ids::TableId;
+use record_log::{Change, Places};
 use tables::TableInfo;
 
 // If the record at p is a removal of table t, its key, of k words, is put into `gone`, past the n that are there; and how many are there then.
@@ -19,7 +19,7 @@ fn gather(log: &[u32], p: usize, t: TableId, k: usize, gone: &mut [u32], n: usiz
         × (is_removal log.now t.0 p ≡ true → p + 2 + k ≤ length log.now) }
     ensures { as_keys gone.new result ≡ store_turn log.now t.0 k p (as_keys gone.old n) }
 {
-    if words::word(log, p + 1) != t.0 || words::word(log, p) != 1 {
+    if words::word(log, p + 1) != t.0 || record_log::change_at(log, p) != Change::Remove {
         return n;
     }
     words::copy(&log[p + 2..p + 2 + k], gone, n * k);

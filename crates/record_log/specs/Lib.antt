@@ -3,3 +3,4 @@ pub mod LogLaws
 pub mod Walk
 pub mod WalkLaws
 pub mod RecordLaws
+pub mod Places

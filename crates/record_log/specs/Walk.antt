@@ -2,6 +2,12 @@
 use Rattle.std.specs.Prelude.{ℕ, ◌+◌, Bool, ◌&&◌, not, cond, List, eqb, leb, get_or}
 use Rattle.model.specs.Basics.{iter}
 use Rattle.tables.specs.Tables.{info_of}
+use Rattle.record_log.specs.declared.Change.{Change}
+use Rattle.record_log.specs.declared.Change.TheVariants.{Insert, Remove}
+
+-- what a record of a kind does to its table: a removal is of kind 1, and every other inserts
+abbrev pub change_by : ℕ → Change
+change_by kind = cond (eqb kind 1) Remove Insert
 
 -- the word past the record at p: its kind and its table, then a key if it is a removal, else a row
 unfoldable pub end_of : List ℕ → List ℕ → ℕ → ℕ

@@ -8,7 +8,26 @@ use Rattle.model.specs.Basics.{iter}
 use Rattle.model.specs.Laws.Logic.{and_split}
 use Rattle.model.specs.Laws.Iter.{iter_more, iter_stop}
 use Rattle.tables.specs.Tables.{info_of}
-use Rattle.record_log.specs.Walk.{end_of, Walk, pass, start, walked, is_removal, is_insertion}
+use Rattle.record_log.specs.declared.Change.TheVariants.{Insert, Remove}
+use Rattle.record_log.specs.Walk.{change_by, end_of, Walk, pass, start, walked, is_removal, is_insertion}
+
+-- ## A record's kind
+
+pub removes_is : (kind : ℕ) → change_by kind ≡ Remove → eqb kind 1 ≡ true
+removes_is kind = by (eqb kind 1)
+  where
+    by : (b : Bool) → cond b Remove Insert ≡ Remove → b ≡ true
+    by true e = refl
+    by false e = absurd (let z : ◌≡◌ {A = ℕ} 0 1 = cc in omega arith)
+
+pub inserts_is : (kind : ℕ) → change_by kind ≡ Insert → eqb kind 1 ≡ false
+inserts_is kind = by (eqb kind 1)
+  where
+    by : (b : Bool) → cond b Remove Insert ≡ Insert → b ≡ false
+    by true e = absurd (let z : ◌≡◌ {A = ℕ} 0 1 = cc in omega arith)
+    by false e = refl
+
+pub ruleset change_is = (removes_is, inserts_is)
 
 -- ## A record's end
 

@@ -1,10 +1,12 @@
 // The lines of an answer, read from its words.
-ghost use Rattle.std.specs.Prelude.{◌≡◌, [], ◌∷◌, ◌+◌, ◌<◌, ◌≤◌, length, drop};
+ghost use Rattle.std.specs.Prelude.{◌≡◌, [], ◌∷◌, ◌<◌, ◌≤◌, length, drop};
+ghost use Rattle.record_log.specs.Walk.{end_of};
 ghost use Rattle.report.specs.Text.{text};
 ghost use Rattle.report.specs.Lines.{body_of, entry_line, family_lines, record_line, record_lines, log_lines};
 ghost use Rattle.report.specs.Page.{Appends, Written};
 
 use crate::text::Page;
+use record_log::{Change, Places};
 
 // The kinds of a body that has a line of its own.
 const TABLE: u32 = 1;
@@ -14,9 +16,6 @@ const COUNTER: u32 = 2;
 const BATCH: u32 = 6;
 
 const PREDICTION: u32 = 7;
-
-// The kind of a record that removes a row.
-const REMOVAL: u32 = 1;
 
 // The entries whose lines stand together, numbered from 0.
 #[derive(Clone, Copy)]
@@ -70,30 +69,27 @@ pub fn numbered(words: &[u32], family: Family, page: &mut Page)
     }
 }
 
-// The line of the record at p, whose words end before `end`.
-fn record_line(log: &[u32], p: usize, end: usize, page: &mut Page)
-    requires { (p + 2 ≤ end) × (end ≤ length log.now) }
-    ensures { Appends page.old page.new (text (record_line log.now p end ∷ [])) }
+// The line of the record at p.
+#[tactic(auto, using(record_log::specs::WalkLaws::end_after, record_log::specs::WalkLaws::change_is, crate::specs::TextLaws::text_one), unfolding(crate::specs::Lines::record_line, crate::specs::Text::line_bytes))]
+fn record_line(words: &[u32], log: &[u32], p: usize, page: &mut Page)
+    requires { end_of words.now log.now p ≤ length log.now }
+    ensures { Appends page.old page.new (text (record_line log.now p (end_of words.now log.now p) ∷ [])) }
 {
     let table = u64::from(words::word(log, p + 1));
-    let row = &log[p + 2..end];
-    if words::word(log, p) == REMOVAL {
-        page.line(b"del", table, row);
-    } else {
-        page.line(b"ins", table, row);
+    let row = &log[p + 2..record_log::end_of(words, log, p)];
+    match record_log::change_at(log, p) {
+        Change::Insert => page.line(b"ins", table, row),
+        Change::Remove => page.line(b"del", table, row),
     }
 }
 
 // The lines of all records.
+#[tactic(auto, using(record_log::specs::Places::record_end, record_log::specs::Places::walks_more))]
 fn records(words: &[u32], log: &[u32], page: &mut Page)
     ensures { Appends page.old page.new (text (record_lines words.now log.now)) }
 {
-    let mut p = 0;
-    let mut end = record_log::end_of(words, log, 0);
-    while end <= log.len() {
-        record_line(log, p, end, page);
-        p = end;
-        end = record_log::end_of(words, log, p);
+    for p in Places::of(words, log) {
+        record_line(words, log, p, page);
     }
 }
 

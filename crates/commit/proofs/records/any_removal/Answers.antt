@@ -15,9 +15,9 @@ use Rattle.std.specs.Iterator.{Yields, YieldsThen}
 use Rattle.std.specs.List.{FoldsTo}
 use Rattle.model.specs.Basics.{iter}
 use Rattle.record_log.specs.Walk.{end_of, Walk, pass, start, walked}
-use Rattle.commit.specs.declared.records.Places.{Places}
+use Rattle.record_log.specs.declared.places.Places.{Places}
 use Rattle.commit.specs.Walk.{removal_turn, any_removal}
-use Rattle.commit.specs.Places.{GivesPlace, Walks, walks_none, walks_more, walks_end}
+use Rattle.record_log.specs.Places.{GivesPlace, Walks, walks_none, walks_more, walks_end}
 use Rattle.commit.proofs.records.any_removal.Goals as goal
 
 module _ (w log : List ℕ) where

@@ -10,7 +10,7 @@ use Rattle.record_log.specs.Walk.{is_insertion}
 use Rattle.record_log.specs.WalkLaws.{end_after, insertion_end}
 use Rattle.commit.specs.Walk.{inserted}
 use Rattle.commit.specs.WalkLaws.{insert_keeps}
-use Rattle.commit.specs.Places.{record_end, walks_more, walks_end}
+use Rattle.record_log.specs.Places.{record_end, walks_more, walks_end}
 use Rattle.commit.proofs.records.insert_all.Goals as goal
 use Rattle.commit.proofs.records.insert_all.Goals.{In-Some}
 

@@ -3,7 +3,7 @@ use lib.ListN.{length}
 use Rattle.commit.specs.Rows.{Stand}
 use Rattle.commit.specs.Indexed.{index_for}
 use Rattle.commit.specs.Walk.{insert_row}
-use Rattle.commit.specs.Places.{Walks}
+use Rattle.record_log.specs.Places.{Walks}
 use Rattle.commit.proofs.records.insert_all.Given as goal
 
 abbrev pub invariant-loop-p : goal.invariant-loop-p

@@ -5,7 +5,7 @@ use native.Mathlib.Omega.{arith}
 use Rattle.commit.specs.Walk.{Keys}
 use Rattle.record_log.specs.WalkLaws.{end_after, removal_end}
 use Rattle.commit.specs.KeyLaws.{stored_laid, store_fits}
-use Rattle.commit.specs.Places.{record_end, walks_more, walks_end}
+use Rattle.record_log.specs.Places.{record_end, walks_more, walks_end}
 use Rattle.commit.proofs.removals.gather_all.Goals as goal
 
 pub gather-n-requires : goal.gather-n-requires

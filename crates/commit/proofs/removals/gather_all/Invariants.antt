@@ -1,6 +1,6 @@
 use Prim.Native.Nat.{◌+◌, ◌*◌, ◌≤◌}
 use Rattle.commit.specs.Walk.{store_turn}
-use Rattle.commit.specs.Places.{Walks}
+use Rattle.record_log.specs.Places.{Walks}
 use Rattle.commit.proofs.removals.gather_all.Given as goal
 
 abbrev pub invariant-loop-p : goal.invariant-loop-p

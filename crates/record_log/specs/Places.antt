@@ -3,7 +3,7 @@ use Rattle.std.specs.Prelude.{ℕ, ◌<◌, ◌≤◌, ◌≡◌, refl, List, le
 use Rattle.std.proofs.Common.{◌∙◌, arith}
 use Rattle.record_log.specs.Walk.{end_of, walked}
 use Rattle.record_log.specs.WalkLaws.{Reached, reached_none, reached_more, reached_end, end_after}
-use Rattle.commit.specs.declared.records.Places.{Places}
+use Rattle.record_log.specs.declared.places.Places.{Places}
 
 -- it gives the word at which the next record begins, if that ends within the log
 pub record GivesPlace (s : Places) (r : Option ℕ) (t : Places) : Type 0 where
