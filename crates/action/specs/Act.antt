@@ -12,8 +12,8 @@ use Rattle.lanes.specs.declared.Ask.TheVariants.{Lookup as AskRow, External as A
 use Rattle.lanes.specs.declared.Test.{Test}
 use Rattle.lanes.specs.declared.Test.TheVariants.{Eq, Ne, AnyNe}
 use Rattle.lanes.specs.Lanes.{listed, entry_ask, asked, holds, answered_lanes, answered_words, kept}
-use Rattle.execution.specs.declared.Change.{Change}
-use Rattle.execution.specs.declared.Change.TheVariants as change
+use Rattle.record_log.specs.declared.Change.{Change}
+use Rattle.record_log.specs.declared.Change.TheVariants as change
 use Rattle.execution.specs.declared.ExecutionState.{ExecutionState}
 use Rattle.execution.specs.Execution.{Logged, staged_lanes}
 use Rattle.predict.specs.declared.Asking.{Asking}

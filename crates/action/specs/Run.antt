@@ -10,18 +10,27 @@ use Rattle.instr.specs.declared.Instr.{Instr}
 use Rattle.instr.specs.Instr.{instr_at}
 use Rattle.instr.specs.Stands.{binds_of}
 use Rattle.execution.specs.Execution.{is_going}
+use Rattle.bindings.specs.declared.Bindings.{Bindings}
+use Rattle.mask.specs.declared.Mask.{Mask}
+use Rattle.execution.specs.declared.ExecutionState.{ExecutionState}
 use Rattle.action.specs.declared.Batch.{Batch}
 use Rattle.action.specs.Act.{Lanes, acted}
 
--- a batch with the memory that it runs in
+-- a batch as it runs, and what the run keeps
+pub record Acting : Type 0 where
+  pub bindings : Bindings
+  pub mask : Mask
+  pub state : ExecutionState
+
+-- with the memory that it runs in
 pub record Running : Type 0 where
-  pub batch : Batch
+  pub batch : Acting
   pub bindings : List ℕ
   pub log : List ℕ
   pub index : List ℕ
 
-abbrev pub as_running : Batch → (bindings log index : List ℕ) → Running
-as_running batch bindings log index = record { batch = batch; bindings = bindings; log = log; index = index }
+abbrev pub as_running : Batch → ExecutionState → (bindings log index : List ℕ) → Running
+as_running b state bindings log index = record { batch = record { bindings = b.bindings; mask = b.mask; state = state }; bindings = bindings; log = log; index = index }
 
 -- dst takes the first n words of an array
 abbrev pub bound_to : Option ℕ → ℕ → List ℕ → List ℕ → List ℕ

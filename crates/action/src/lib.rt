@@ -7,7 +7,6 @@ ghost use Rattle.std.specs.Prelude.{◌≡◌, ◌+◌, ◌≤◌, ◌<◌, leng
 ghost use Rattle.model.specs.Book.Contents.{rule_count, table_count};
 ghost use Rattle.model.specs.Outcome.{rule_first};
 ghost use Rattle.model.specs.Laws.Book.{Readable};
-ghost use Rattle.contents.specs.Contents.{ContentsOf};
 ghost use Rattle.hash_index.specs.Book.{BookIndex};
 ghost use Rattle.bindings.specs.Bindings.{bound_in};
 ghost use Rattle.instr.specs.Instr.{instr_at};
@@ -17,41 +16,40 @@ ghost use Rattle.action.specs.Act.{acted, as_lanes};
 ghost use Rattle.action.specs.Run.{bound_to, ran_instr, ran_next, ran_instrs, as_running};
 
 use bindings::Bindings;
-use contents::Contents;
-use execution::{Change, ExecutionState, Live, Staging};
+use contents::Book;
+use execution::{ExecutionState, Staging};
 use ids::{STALE, Variable};
 use instr::Instr;
-use lanes::{Ask, Test};
+use lanes::{Ask, Test, View};
 use mask::Mask;
+use record_log::Change;
 
-// A batch as it runs: what its bindings keep beside the lent words, which lanes are live, and what the run keeps.
+// A batch as it runs: what its bindings keep beside the lent words, and which lanes are live.
 #[derive(Clone, Copy)]
 pub struct Batch {
     pub bindings: Bindings,
     pub mask: Mask,
-    pub state: ExecutionState,
 }
 
 // The lanes' part of an instruction; its dst is left in `out`.
 #[tactic(auto, using(crate::specs::ActLaws::searchable), unfolding(crate::specs::Act::acted))]
 fn act(
-    words: &[u32],
-    chains: &[u32],
-    bindings: &[u32],
+    view: View,
     i: Instr,
-    start: Live,
+    mask: Mask,
+    s: &mut ExecutionState,
     log: &mut [u32],
     index: &mut [u32],
     out: &mut [u32],
-) -> Live
-    requires { Readable words.now × BookIndex words.now (table_count words.now) chains.now × Stands words.now i
-        × Ready start.state log.old index.old × (length out.old ≡ 256) }
-    ensures is { as_lanes result.mask.live result.state log.new index.new out.new
-        ≡ acted words.now bindings.now i
-        (as_lanes start.mask.live start.state log.old index.old out.old) }
-    ensures fits { result.state.used ≤ length log.old }
+) -> Mask
+    requires { Readable view.words.now × BookIndex view.words.now (table_count view.words.now) view.chains.now
+        × Stands view.words.now i × Ready s.old log.old index.old × (length out.old ≡ 256) }
+    ensures is { as_lanes result.live s.new log.new index.new out.new
+        ≡ acted view.entry.words.now view.entry.bindings.now i
+        (as_lanes mask.live s.old log.old index.old out.old) }
+    ensures fits { s.new.used ≤ length log.old }
 {
-    let Live { mask, state } = start;
+    let words = view.words;
     match i {
         Instr::LookupOrInsertDefault {
             table,
@@ -59,49 +57,27 @@ fn act(
             default,
             dst_col,
             ..
-        } => Live {
-            mask,
-            state: lookup::lookup_or_insert_default(
-                words,
-                chains,
-                bindings,
-                lookup::predicted_ask(words, table, args, default, dst_col),
-                start,
-                log,
-                index,
-                out,
-            ),
-        },
+        } => {
+            let ask = lookup::predicted_ask(words, table, args, default, dst_col);
+            lookup::lookup_or_insert_default(view, ask, mask, s, log, index, out);
+            mask
+        }
         Instr::LookupWithDefault {
             table,
             args,
             dst_col,
             default,
             ..
-        } => Live {
-            mask: lookup::fill_or_else(
-                words,
-                chains,
-                bindings,
-                lookup::row_ask(words, table, args, dst_col),
-                lanes::entry_ask(default),
-                mask,
-                out,
-            ),
-            state,
-        },
+        } => {
+            let ask = lookup::row_ask(words, table, args, dst_col);
+            lookup::fill_or_else(view, ask, lanes::entry_ask(default), mask, out)
+        }
         Instr::Lookup {
             table,
             args,
             dst_col,
             ..
-        } => {
-            let ask = lookup::row_ask(words, table, args, dst_col);
-            Live {
-                mask: lanes::fill(words, chains, bindings, ask, mask, out),
-                state,
-            }
-        }
+        } => view.fill(lookup::row_ask(words, table, args, dst_col), mask, out),
         Instr::LookupWithFallback {
             table,
             table_key,
@@ -109,119 +85,66 @@ fn act(
             func_args,
             dst_col,
             ..
-        } => Live {
-            mask: lookup::fill_or_else(
-                words,
-                chains,
-                bindings,
-                lookup::row_ask(words, table, table_key, dst_col),
-                Ask::External {
-                    func,
-                    args: func_args,
-                },
-                mask,
-                out,
-            ),
-            state,
-        },
-        Instr::Insert { table, vals } => Live {
-            mask,
-            state: execution::stage_lanes(
-                words,
-                bindings,
-                Staging {
-                    change: Change::Insert,
-                    table,
-                    vals,
-                },
-                mask,
-                state,
-                log,
-            ),
-        },
-        Instr::InsertIfEq { table, l, r, vals } => Live {
-            mask,
-            state: execution::stage_lanes(
-                words,
-                bindings,
-                Staging {
-                    change: Change::Insert,
-                    table,
-                    vals,
-                },
-                lanes::retain(words, bindings, Test::Eq(l, r), mask),
-                state,
-                log,
-            ),
-        },
-        Instr::Remove { table, args } => Live {
-            mask,
-            state: execution::stage_lanes(
-                words,
-                bindings,
-                Staging {
-                    change: Change::Remove,
-                    table,
-                    vals: args,
-                },
-                mask,
-                state,
-                log,
-            ),
-        },
-        Instr::External { func, args, .. } => Live {
-            mask: lanes::fill(
-                words,
-                chains,
-                bindings,
-                Ask::External { func, args },
-                mask,
-                out,
-            ),
-            state,
-        },
+        } => {
+            let ask = lookup::row_ask(words, table, table_key, dst_col);
+            let other = Ask::External {
+                func,
+                args: func_args,
+            };
+            lookup::fill_or_else(view, ask, other, mask, out)
+        }
+        Instr::Insert { table, vals } => {
+            let what = Staging {
+                change: Change::Insert,
+                table,
+                vals,
+            };
+            execution::stage_lanes(view, what, mask, s, log);
+            mask
+        }
+        Instr::InsertIfEq { table, l, r, vals } => {
+            let what = Staging {
+                change: Change::Insert,
+                table,
+                vals,
+            };
+            execution::stage_lanes(view, what, view.retain(Test::Eq(l, r), mask), s, log);
+            mask
+        }
+        Instr::Remove { table, args } => {
+            let what = Staging {
+                change: Change::Remove,
+                table,
+                vals: args,
+            };
+            execution::stage_lanes(view, what, mask, s, log);
+            mask
+        }
+        Instr::External { func, args, .. } => view.fill(Ask::External { func, args }, mask, out),
         Instr::ExternalWithFallback {
             f1,
             args1,
             f2,
             args2,
             ..
-        } => Live {
-            mask: lookup::fill_or_else(
-                words,
-                chains,
-                bindings,
-                Ask::External {
-                    func: f1,
-                    args: args1,
-                },
-                Ask::External {
-                    func: f2,
-                    args: args2,
-                },
-                mask,
-                out,
-            ),
-            state,
-        },
-        Instr::AssertEq(l, r) => Live {
-            mask: lanes::retain(words, bindings, Test::Eq(l, r), mask),
-            state,
-        },
-        Instr::AssertNe(l, r) => Live {
-            mask: lanes::retain(words, bindings, Test::Ne(l, r), mask),
-            state,
-        },
-        Instr::AssertAnyNe { ops, divider } => Live {
-            mask: lanes::retain(words, bindings, Test::AnyNe { ops, divider }, mask),
-            state,
-        },
+        } => {
+            let ask = Ask::External {
+                func: f1,
+                args: args1,
+            };
+            let other = Ask::External {
+                func: f2,
+                args: args2,
+            };
+            lookup::fill_or_else(view, ask, other, mask, out)
+        }
+        Instr::AssertEq(l, r) => view.retain(Test::Eq(l, r), mask),
+        Instr::AssertNe(l, r) => view.retain(Test::Ne(l, r), mask),
+        Instr::AssertAnyNe { ops, divider } => view.retain(Test::AnyNe { ops, divider }, mask),
         Instr::ReadCounter { counter, .. } => {
             // Dead lanes too have the counter's next in dst.
-            let every = Mask::new(256);
-            let next = state.read_counter(counter);
-            lanes::fill(words, chains, bindings, Ask::Const(next), every, out);
-            Live { mask, state }
+            view.fill(Ask::Const(s.read_counter(counter)), Mask::new(256), out);
+            mask
         }
     }
 }
@@ -244,29 +167,27 @@ fn run_instr(
     words: &[u32],
     chains: &[u32],
     i: Instr,
-    batch: Batch,
+    batch: &mut Batch,
+    s: &mut ExecutionState,
     bindings: &mut [u32],
     log: &mut [u32],
     index: &mut [u32],
-) -> Batch
+)
     requires { Readable words.now × BookIndex words.now (table_count words.now) chains.now × Stands words.now i
-        × Ready batch.state log.old index.old × (length bindings.old ≡ 8192) }
-    ensures is { as_running result bindings.new log.new index.new
+        × Ready s.old log.old index.old × (length bindings.old ≡ 8192) }
+    ensures is { as_running batch.new s.new bindings.new log.new index.new
         ≡ ran_instr words.now i
-        (as_running batch bindings.old log.old index.old) }
-    ensures fits { result.state.used ≤ length log.old }
+        (as_running batch.old s.old bindings.old log.old index.old) }
+    ensures fits { s.new.used ≤ length log.old }
 {
-    let start = Live {
-        mask: batch.mask,
-        state: batch.state,
+    let view = View {
+        words,
+        chains,
+        bindings,
     };
     let mut out = [STALE; 256];
-    let Live { mask, state } = act(words, chains, bindings, i, start, log, index, &mut out);
-    Batch {
-        bindings: bind_dst(batch.bindings, i.dst(), &out, bindings),
-        mask,
-        state,
-    }
+    batch.mask = act(view, i, batch.mask, s, log, index, &mut out);
+    batch.bindings = bind_dst(batch.bindings, i.dst(), &out, bindings);
 }
 
 // The instruction whose opcode stands at p, if a lane is live and the run goes on.
@@ -275,60 +196,53 @@ fn run_next(
     words: &[u32],
     chains: &[u32],
     p: usize,
-    batch: Batch,
+    batch: &mut Batch,
+    s: &mut ExecutionState,
     bindings: &mut [u32],
     log: &mut [u32],
     index: &mut [u32],
-) -> Batch
+)
     requires { Readable words.now × BookIndex words.now (table_count words.now) chains.now × (p ≤ 16384)
-        × Stands words.now (instr_at words.now p) × Ready batch.state log.old index.old
+        × Stands words.now (instr_at words.now p) × Ready s.old log.old index.old
         × (length bindings.old ≡ 8192) }
-    ensures is { as_running result bindings.new log.new index.new
+    ensures is { as_running batch.new s.new bindings.new log.new index.new
         ≡ ran_next words.now p
-        (as_running batch bindings.old log.old index.old) }
-    ensures fits { result.state.used ≤ length log.old }
+        (as_running batch.old s.old bindings.old log.old index.old) }
+    ensures fits { s.new.used ≤ length log.old }
 {
-    if batch.state.going() && !batch.mask.is_empty() {
-        return run_instr(
-            words,
-            chains,
-            instr::instr_at(words, p),
-            batch,
-            bindings,
-            log,
-            index,
-        );
+    if s.going() && !batch.mask.is_empty() {
+        let i = instr::instr_at(words, p);
+        run_instr(words, chains, i, batch, s, bindings, log, index);
     }
-    batch
 }
 
 // The instructions of rule r, in order.
 #[tactic(auto, unfolding(crate::specs::Run::ran_instrs))]
 pub fn run_instrs(
-    words: &[u32],
+    book: Book,
     chains: &[u32],
-    contents: Contents,
     r: usize,
-    start: Batch,
+    batch: &mut Batch,
+    s: &mut ExecutionState,
     bindings: &mut [u32],
     log: &mut [u32],
     index: &mut [u32],
-) -> Batch
-    requires { Readable words.now × BookIndex words.now (table_count words.now) chains.now × ContentsOf words.now contents
-        × (r < rule_count words.now) × Ready start.state log.old index.old × (length bindings.old ≡ 8192) }
-    ensures is { as_running result bindings.new log.new index.new
-        ≡ ran_instrs words.now (rule_first words.now r)
-        (get_or words.now (rule_first words.now r + 1) 0)
-        (as_running start bindings.old log.old index.old) }
-    ensures fits { result.state.used ≤ length log.old }
+)
+    requires { BookIndex book.words.now (table_count book.words.now) chains.now
+        × (r < rule_count book.words.now) × Ready s.old log.old index.old
+        × (length bindings.old ≡ 8192) }
+    ensures is { as_running batch.new s.new bindings.new log.new index.new
+        ≡ ran_instrs book.entry.words.now (rule_first book.entry.words.now r)
+        (get_or book.entry.words.now (rule_first book.entry.words.now r + 1) 0)
+        (as_running batch.old s.old bindings.old log.old index.old) }
+    ensures fits { s.new.used ≤ length log.old }
 {
-    let first = contents::first_of(words, contents.first_rule() + r);
+    let words = book.words;
+    let first = contents::first_of(words, book.contents.first_rule() + r);
     let n = words::size_at(words, first + 1);
-    let mut batch = start;
     let mut p = first + 2;
     for _ in 0..n {
-        batch = run_next(words, chains, p, batch, bindings, log, index);
+        run_next(words, chains, p, batch, s, bindings, log, index);
         p = instr::next(words, p);
     }
-    batch
 }

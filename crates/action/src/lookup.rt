@@ -6,10 +6,10 @@ ghost use Rattle.lanes.specs.Lanes.{AskFits};
 ghost use Rattle.predict.specs.Predict.{Ready};
 ghost use Rattle.action.specs.Act.{row_ask, asking, either_lanes, either_words, serving, as_lanes};
 
-use execution::{ExecutionState, Live};
+use execution::ExecutionState;
 use ids::{ColumnId, TableId};
 use instr::Entries;
-use lanes::Ask;
+use lanes::{Ask, View};
 use mask::Mask;
 use predict::{Asking, Row};
 use predicted_index::Sought;
@@ -46,53 +46,40 @@ pub fn predicted_ask(
 }
 
 // Each lane of the mask asks, and asks otherwise if it is not answered; the lanes that were answered.
-pub fn fill_or_else(
-    words: &[u32],
-    chains: &[u32],
-    bindings: &[u32],
-    ask: Ask,
-    other: Ask,
-    mask: Mask,
-    out: &mut [u32],
-) -> Mask
-    requires { AskFits words.now chains.now ask × AskFits words.now chains.now other × (length out.old ≡ 256) }
-    ensures words { out.new ≡ either_words words.now bindings.now ask other mask.live
-        out.old }
-    ensures lanes { result.live ≡ either_lanes words.now bindings.now ask other mask.live }
+pub fn fill_or_else(view: View, ask: Ask, other: Ask, mask: Mask, out: &mut [u32]) -> Mask
+    requires { AskFits view.words.now view.chains.now ask × AskFits view.words.now view.chains.now other × (length out.old ≡ 256) }
+    ensures words { out.new ≡ either_words view.entry.words.now view.entry.bindings.now ask other mask.live out.old }
+    ensures lanes { result.live ≡ either_lanes view.entry.words.now view.entry.bindings.now ask other mask.live }
 {
-    let found = lanes::fill(words, chains, bindings, ask, mask, out);
+    let found = view.fill(ask, mask, out);
     let missed = mask.difference(found);
-    let served = lanes::fill(words, chains, bindings, other, missed, out);
+    let served = view.fill(other, missed, out);
     found.union(served)
 }
 
 // A column of the committed row, else of the predicted row, which is made where there is none.
 pub fn lookup_or_insert_default(
-    words: &[u32],
-    chains: &[u32],
-    bindings: &[u32],
+    view: View,
     ask: Asking,
-    start: Live,
+    mask: Mask,
+    s: &mut ExecutionState,
     log: &mut [u32],
     index: &mut [u32],
     out: &mut [u32],
-) -> ExecutionState
-    requires { Searchable words.now chains.now ask.row.of × Short ask.key × Short ask.row.vals
-        × Ready start.state log.old index.old × (length out.old ≡ 256) }
-    ensures is { as_lanes start.mask.live result log.new index.new out.new
-        ≡ serving words.now bindings.now ask
-        (as_lanes start.mask.live start.state log.old index.old out.old) }
-    ensures fits { result.used ≤ length log.old }
+)
+    requires { Searchable view.words.now view.chains.now ask.row.of × Short ask.key × Short ask.row.vals
+        × Ready s.old log.old index.old × (length out.old ≡ 256) }
+    ensures is { as_lanes mask.live s.new log.new index.new out.new
+        ≡ serving view.entry.words.now view.entry.bindings.now ask
+        (as_lanes mask.live s.old log.old index.old out.old) }
+    ensures fits { s.new.used ≤ length log.old }
 {
     let row = Ask::Lookup {
         of: ask.row.of,
         key: ask.key,
         col: ask.col,
     };
-    let found = lanes::fill(words, chains, bindings, row, start.mask, out);
-    let missed = Live {
-        mask: start.mask.difference(found),
-        ..start
-    };
-    predict::serve_lanes(words, chains, bindings, ask, missed, log, index, out)
+    let found = view.fill(row, mask, out);
+    let missed = mask.difference(found);
+    predict::serve_lanes(view, ask, missed, s, log, index, out)
 }

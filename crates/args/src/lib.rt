@@ -14,15 +14,14 @@ pub struct Args {
 impl Args {
     // With one word more. There is no room for a 17th, which no key or row has.
     #[tactic(auto, unfolding(crate::specs::Args::pushed))]
-    pub fn push(mut self, x: u32) -> Self
-        ensures { result ≡ pushed self x }
+    pub fn push(&mut self, x: u32)
+        ensures { self.new ≡ pushed self.old x }
     {
         let n = self.count;
         if n < 16 {
             self.vals[n] = x;
             self.count = n + 1;
         }
-        self
     }
 }
 

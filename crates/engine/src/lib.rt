@@ -5,26 +5,24 @@ ghost use Rattle.std.specs.Prelude.{◌≡◌, ◌≤◌, length, replicate, Non
 ghost use Rattle.model.specs.Book.Words.{bytes_refusal, words_of};
 ghost use Rattle.model.specs.Book.Read as read;
 ghost use Rattle.model.specs.Outcome.{Permitted, words_refusal};
-ghost use Rattle.model.specs.Laws.Book.{Readable};
-ghost use Rattle.contents.specs.Contents.{ContentsOf};
 ghost use Rattle.counter.specs.CounterLaws.{padded};
 ghost use Rattle.simulation.specs.Ends.{start_progress};
 ghost use Rattle.conclude.specs.End.{Concludes};
 ghost use Rattle.engine.specs.Engine.{lent_of, lengths_fit, Runnable, Decided, outcome_of, AnswerLeft, kept_answer};
 
-use contents::Contents;
+use contents::Book;
 use counter::Counters;
 use execution::ExecutionState;
 use refusal::Refusal;
 use run::Progress;
 
 // The book's counters, 0 past the last.
-fn counters_of(words: &[u32], contents: Contents) -> Counters
-    requires { Readable words.now × ContentsOf words.now contents }
-    ensures { result.next ≡ padded (read.counters words.now) }
+fn counters_of(book: Book) -> Counters
+    ensures { result.next ≡ padded (read.counters book.entry.words.now) }
 {
-    let tables = contents.table_count();
-    let n = contents.counter_count();
+    let words = book.words;
+    let tables = book.contents.table_count();
+    let n = book.contents.counter_count();
     let mut next = [0u32; 16];
     for (c, word) in next[..n].iter_mut().enumerate() {
         *word = words::word(words, contents::first_of(words, tables + c));
@@ -33,19 +31,16 @@ fn counters_of(words: &[u32], contents: Contents) -> Counters
 }
 
 // A fresh execution state, before the first step.
-fn start(words: &[u32], contents: Contents) -> Progress
-    requires { Readable words.now × ContentsOf words.now contents }
-    ensures { result ≡ start_progress words.now }
+fn start(book: Book) -> Progress
+    ensures { result ≡ start_progress book.entry.words.now }
 {
-    let counters = counters_of(words, contents);
-    let state = ExecutionState {
-        used: 0,
-        counters,
-        changed: false,
-        stop: None,
-    };
     Progress {
-        state,
+        state: ExecutionState {
+            used: 0,
+            counters: counters_of(book),
+            changed: false,
+            stop: None,
+        },
         done: 0,
         at: 0,
         lengths: [0u32; 64],
@@ -68,17 +63,13 @@ fn run_book(
         (lent_of bindings.old index.old log.old tables.old
         answer.old) result answer.new }
 {
-    let contents = contents::of(words);
-    let p = run::run_steps(
+    let book = Book {
         words,
-        contents,
-        start(words, contents),
-        bindings,
-        log,
-        index,
-        answer,
-    );
-    conclude::conclude(words, contents, p, log, tables, answer)
+        contents: contents::of(words),
+    };
+    let mut p = start(book);
+    run::run_steps(book, &mut p, bindings, log, index, answer);
+    conclude::conclude(book, &p, log, tables, answer)
 }
 
 // A book that refusal 1 passes, loaded into an array of N words: refusals 2 to 11, and then its run.

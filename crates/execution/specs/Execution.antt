@@ -5,8 +5,8 @@ use Rattle.args.specs.declared.Args.{Args}
 use Rattle.record_log.specs.Log.{record_of, appended, stored}
 use Rattle.execution.specs.declared.Stop.{Stop}
 use Rattle.execution.specs.declared.Stop.TheVariants.{Spent, Full}
-use Rattle.execution.specs.declared.Change.{Change}
-use Rattle.execution.specs.declared.Change.TheVariants.{Insert, Remove}
+use Rattle.record_log.specs.declared.Change.{Change}
+use Rattle.record_log.specs.declared.Change.TheVariants.{Insert, Remove}
 use Rattle.execution.specs.declared.ExecutionState.{ExecutionState}
 
 abbrev pub goes_on : Option Stop → Bool

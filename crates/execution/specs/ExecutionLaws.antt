@@ -1,7 +1,8 @@
 -- Staging by what the append answers; it uses no more words than the log has.
-use Rattle.std.specs.Prelude.{ℕ, ◌+◌, ◌≤◌, ◌≡◌, refl, Bool, true, false, cond, List, leb, length, Option, Some, None}
-use Rattle.std.proofs.Common.{leb-true}
+use Rattle.std.specs.Prelude.{ℕ, ◌+◌, ◌≤◌, ◌≡◌, refl, Bool, true, false, cond, List, leb, length, take, Option, Some, None}
+use Rattle.std.proofs.Common.{ap, leb-true}
 use Rattle.record_log.specs.Log.{record_of, appended, stored}
+use Rattle.record_log.specs.LogLaws.{record_of_taken}
 use Rattle.execution.specs.declared.ExecutionState.{ExecutionState}
 use Rattle.execution.specs.Execution.{Logged, after_append, staged}
 
@@ -21,3 +22,8 @@ module _ (kind table : ℕ) (row : List ℕ) (n : ℕ) (l : Logged) where
       → (◌≡◌ {A = Logged} (record { state = s; log = log }) (staged kind table row n l)) × (s.used ≤ length l.log)
   unfolding staged
   staged_by a s log e q m h = (rw (q, e, m), rw (q, e) (append_fits l.log rec l.state h))
+
+-- the first n words of an array, as a slice
+pub staged_taken : (kind table : ℕ) (row : List ℕ) (n : ℕ) (l : Logged) → n ≤ length row → staged kind table (take n row) (length (take n row)) l ≡ staged kind table row n l
+unfolding staged
+staged_taken kind table row n l h = ap (λ (r : List ℕ). record { state = after_append (appended l.log l.state.used r) l.state; log = stored l.log l.state.used r }) (record_of_taken kind table row n h)

@@ -1,4 +1,4 @@
-// The passes over the lanes of a batch that only read: what each live lane is answered, and which lanes pass a test. An index of the book's rows may be lent as `chains`; an empty one is none.
+// The passes over the lanes of a batch that only read: what each live lane is answered, and which lanes pass a test.
 #![tactic(auto)]
 
 ghost use Rattle.std.specs.Prelude.{ℕ, Bool, Option, ◌≡◌, ◌&&◌, length, take, drop, Some, slice_get};
@@ -17,6 +17,14 @@ use ids::{ColumnId, ExternalFunctionId, Lane, Variable};
 use instr::{Entries, QueryEntry};
 use mask::Mask;
 use predicted_index::Sought;
+
+// What the lanes read: the book's words, an index of its rows, or an empty one for none, and the columns of the batch.
+#[derive(Clone, Copy)]
+pub struct View<'a> {
+    pub words: &'a [u32],
+    pub chains: &'a [u32],
+    pub bindings: &'a [u32],
+}
 
 // What a lane asks for: a column of the committed row with a key, what a function answers, a variable's word, or a constant.
 #[derive(Clone, Copy)]
@@ -53,24 +61,6 @@ pub fn entry_ask(e: QueryEntry) -> Ask
     }
 }
 
-// What a list of entries stands for in a lane.
-pub fn fetch(words: &[u32], bindings: &[u32], list: Entries, lane: Lane) -> Args
-    requires { Short list }
-    ensures { result ≡ listed words.now bindings.now lane.0 list }
-{
-    bindings::fetch(words, bindings, lane, list.at, list.count)
-}
-
-// What an entry stands for in a lane.
-pub fn value(bindings: &[u32], e: QueryEntry, lane: Lane) -> u32
-    ensures { result ≡ word_of bindings.now lane.0 (entry_of e) }
-{
-    match e {
-        QueryEntry::Var(v) => bindings::variable(bindings, v, lane),
-        QueryEntry::Const(x) => x,
-    }
-}
-
 // The column of a row, which has no words where there is none.
 fn column(row: &[u32], col: ColumnId) -> Option<u32>
     ensures { result ≡ slice_get row.now col.0 }
@@ -79,44 +69,6 @@ fn column(row: &[u32], col: ColumnId) -> Option<u32>
         Some(word) => Some(*word),
         None => None,
     }
-}
-
-// What a table answers in a lane: a column of the committed row with the key.
-#[tactic(auto, unfolding(crate::specs::Lanes::asked, bindings::specs::Columns::fetched))]
-fn look_up(
-    words: &[u32],
-    chains: &[u32],
-    bindings: &[u32],
-    of: Sought,
-    key: Entries,
-    col: ColumnId,
-    lane: Lane,
-) -> Option<u32>
-    requires { Searchable words.now chains.now of × Short key }
-    ensures { result ≡ asked words.now bindings.now (Lookup of key col) lane.0 }
-{
-    let mut vals = [0u32; 16];
-    bindings::fetch_into(words, bindings, lane, key.at, key.count, &mut vals);
-    // the log is not looked at
-    let row = predicted_index::row_of(words, &words[..0], chains, &words[..0], of, &vals);
-    column(row, col)
-}
-
-// What a function answers in a lane; `vals` is lent for its arguments.
-fn invoke(
-    words: &[u32],
-    bindings: &[u32],
-    func: ExternalFunctionId,
-    args: Entries,
-    lane: Lane,
-    vals: &mut [u32; 16],
-) -> Option<u32>
-    requires { Short args }
-    ensures { result ≡ asked words.now bindings.now (External func args) lane.0 }
-{
-    let count = args.count;
-    bindings::fetch_into(words, bindings, lane, args.at, count, vals);
-    functions::invoke(func, &vals[..count])
 }
 
 // A pass of `fill`: each live lane has the word that `answer` gives it, and is live no more where it gives none. What `answer` is lent is for its arguments. The families are told apart here, outside of the loop.
@@ -142,89 +94,11 @@ fn fill_by<F: Fn(Lane, &mut [u32; 16]) -> Option<u32>>(
     mask
 }
 
-fn lookup_row_vectorized(
-    words: &[u32],
-    chains: &[u32],
-    bindings: &[u32],
-    of: Sought,
-    key: Entries,
-    col: ColumnId,
-    mask: Mask,
-    out: &mut [u32],
-) -> Mask
-    requires { Searchable words.now chains.now of × Short key × (length out.old ≡ 256) }
-    ensures { Fills (asked words.now bindings.now (Lookup of key col)) mask.live
-        out.old result.live out.new }
-{
-    fill_by(
-        mask,
-        out,
-        |lane, _| look_up(words, chains, bindings, of, key, col, lane),
-    )
-}
-
-// The Rust's `invoke_batch_assign` too: words that are in `out` already stay where a lane is not answered.
-fn invoke_batch(
-    words: &[u32],
-    bindings: &[u32],
-    func: ExternalFunctionId,
-    args: Entries,
-    mask: Mask,
-    out: &mut [u32],
-) -> Mask
-    requires { Short args × (length out.old ≡ 256) }
-    ensures { Fills (asked words.now bindings.now (External func args)) mask.live
-        out.old result.live out.new }
-{
-    fill_by(
-        mask,
-        out,
-        |lane, vals| invoke(words, bindings, func, args, lane, vals),
-    )
-}
-
 // x in a live lane, else the word that is there.
 fn chosen(live: bool, x: u32, other: u32) -> u32
     ensures { result ≡ or_else (only live (Some x)) other }
 {
     if live { x } else { other }
-}
-
-// An entry answers every lane, so that the mask stays.
-fn fill_entry(bindings: &[u32], e: QueryEntry, mask: Mask, out: &mut [u32]) -> Mask
-    requires { length out.old ≡ 256 }
-    ensures { Fills (λ i. Some (word_of bindings.now i (entry_of e))) mask.live
-        out.old result.live out.new }
-{
-    for i in 0..mask.end() {
-        out[i] = chosen(mask.live[i], value(bindings, e, Lane(i)), out[i]);
-    }
-    mask
-}
-
-// Each lane of the mask that is answered has its word in `out`; the lanes that were.
-#[tactic(auto, unfolding(crate::specs::Lanes::asked))]
-pub fn fill(
-    words: &[u32],
-    chains: &[u32],
-    bindings: &[u32],
-    ask: Ask,
-    mask: Mask,
-    out: &mut [u32],
-) -> Mask
-    requires { AskFits words.now chains.now ask × (length out.old ≡ 256) }
-    ensures lanes { result.live ≡ answered_lanes (asked words.now bindings.now ask) mask.live }
-    ensures words { out.new ≡ answered_words (asked words.now bindings.now ask) mask.live
-        out.old }
-{
-    match ask {
-        Ask::Lookup { of, key, col } => lookup_row_vectorized(
-            words, chains, bindings, of, key, col, mask, out,
-        ),
-        Ask::External { func, args } => invoke_batch(words, bindings, func, args, mask, out),
-        Ask::Var(v) => fill_entry(bindings, QueryEntry::Var(v), mask, out),
-        Ask::Const(x) => fill_entry(bindings, QueryEntry::Const(x), mask, out),
-    }
 }
 
 // Whether some pair of the two sides, before the divider and from it on, differs; up to the shorter side.
@@ -241,25 +115,6 @@ fn any_ne(ops: &[u32], divider: usize) -> bool
     false
 }
 
-// Whether two entries are equal in a lane; whether they differ, where `equal` is false.
-fn agree(bindings: &[u32], l: QueryEntry, r: QueryEntry, equal: bool, lane: Lane) -> bool
-    ensures { result ≡ agreed bindings.now l r equal lane.0 }
-{
-    let same = value(bindings, l, lane) == value(bindings, r, lane);
-    same == equal
-}
-
-// Whether some pair of a lane's words differs.
-fn differ(words: &[u32], bindings: &[u32], ops: Entries, divider: usize, lane: Lane) -> bool
-    requires { Short ops }
-    ensures { result ≡ holds words.now bindings.now (AnyNe ops divider) lane.0 }
-{
-    let count = ops.count;
-    let mut vals = [0u32; 16];
-    bindings::fetch_into(words, bindings, lane, ops.at, count, &mut vals);
-    any_ne(&vals[..count], divider)
-}
-
 // A pass of `retain`: `passes` tells of each lane, by whether it is live, whether it stays.
 fn retain_by<F: Fn(bool, Lane) -> bool>(mut mask: Mask, passes: F) -> Mask
     requires { F.IsAlwaysCallable passes }
@@ -273,31 +128,155 @@ fn retain_by<F: Fn(bool, Lane) -> bool>(mut mask: Mask, passes: F) -> Mask
     mask
 }
 
-fn assert_impl(bindings: &[u32], l: QueryEntry, r: QueryEntry, equal: bool, mask: Mask) -> Mask
-    ensures { result.live ≡ kept (agreed bindings.now l r equal) mask.live }
-{
-    retain_by(mask, |live, lane| live & agree(bindings, l, r, equal, lane))
-}
+impl<'a> View<'a> {
+    // What a list of entries stands for in a lane.
+    pub fn fetch(self, list: Entries, lane: Lane) -> Args
+        requires { Short list }
+        ensures { result ≡ listed self.entry.words.now self.entry.bindings.now lane.0 list }
+    {
+        bindings::fetch(self.words, self.bindings, lane, list.at, list.count)
+    }
 
-fn retain_any_ne(words: &[u32], bindings: &[u32], ops: Entries, divider: usize, mask: Mask) -> Mask
-    requires { Short ops }
-    ensures { result.live ≡ kept (holds words.now bindings.now (AnyNe ops divider)) mask.live }
-{
-    retain_by(
-        mask,
-        |live, lane| live && differ(words, bindings, ops, divider, lane),
-    )
-}
+    // What an entry stands for in a lane.
+    pub fn value(self, e: QueryEntry, lane: Lane) -> u32
+        ensures { result ≡ word_of self.entry.bindings.now lane.0 (entry_of e) }
+    {
+        match e {
+            QueryEntry::Var(v) => bindings::variable(self.bindings, v, lane),
+            QueryEntry::Const(x) => x,
+        }
+    }
 
-// The lanes of the mask that pass; the others are dropped.
-#[tactic(auto, unfolding(crate::specs::Lanes::holds))]
-pub fn retain(words: &[u32], bindings: &[u32], test: Test, mask: Mask) -> Mask
-    requires { TestFits test }
-    ensures { result.live ≡ kept (holds words.now bindings.now test) mask.live }
-{
-    match test {
-        Test::Eq(l, r) => assert_impl(bindings, l, r, true, mask),
-        Test::Ne(l, r) => assert_impl(bindings, l, r, false, mask),
-        Test::AnyNe { ops, divider } => retain_any_ne(words, bindings, ops, divider, mask),
+    // What a table answers in a lane: a column of the committed row with the key.
+    #[tactic(auto, unfolding(crate::specs::Lanes::asked, bindings::specs::Columns::fetched))]
+    fn look_up(self, of: Sought, key: Entries, col: ColumnId, lane: Lane) -> Option<u32>
+        requires { Searchable self.words.now self.chains.now of × Short key }
+        ensures { result ≡ asked self.entry.words.now self.entry.bindings.now (Lookup of key col) lane.0 }
+    {
+        let words = self.words;
+        let mut vals = [0u32; 16];
+        bindings::fetch_into(words, self.bindings, lane, key.at, key.count, &mut vals);
+        // the log is not looked at
+        let row = predicted_index::row_of(words, &words[..0], self.chains, &words[..0], of, &vals);
+        column(row, col)
+    }
+
+    // What a function answers in a lane; `vals` is lent for its arguments.
+    fn invoke(
+        self,
+        func: ExternalFunctionId,
+        args: Entries,
+        lane: Lane,
+        vals: &mut [u32; 16],
+    ) -> Option<u32>
+        requires { Short args }
+        ensures { result ≡ asked self.entry.words.now self.entry.bindings.now (External func args) lane.0 }
+    {
+        let count = args.count;
+        bindings::fetch_into(self.words, self.bindings, lane, args.at, count, vals);
+        functions::invoke(func, &vals[..count])
+    }
+
+    fn lookup_row_vectorized(
+        self,
+        of: Sought,
+        key: Entries,
+        col: ColumnId,
+        mask: Mask,
+        out: &mut [u32],
+    ) -> Mask
+        requires { Searchable self.words.now self.chains.now of × Short key × (length out.old ≡ 256) }
+        ensures { Fills (asked self.entry.words.now self.entry.bindings.now (Lookup of key col)) mask.live
+            out.old result.live out.new }
+    {
+        fill_by(mask, out, |lane, _| self.look_up(of, key, col, lane))
+    }
+
+    // The Rust's `invoke_batch_assign` too: words that are in `out` already stay where a lane is not answered.
+    fn invoke_batch(
+        self,
+        func: ExternalFunctionId,
+        args: Entries,
+        mask: Mask,
+        out: &mut [u32],
+    ) -> Mask
+        requires { Short args × (length out.old ≡ 256) }
+        ensures { Fills (asked self.entry.words.now self.entry.bindings.now (External func args)) mask.live
+            out.old result.live out.new }
+    {
+        fill_by(mask, out, |lane, vals| self.invoke(func, args, lane, vals))
+    }
+
+    // An entry answers every lane, so that the mask stays.
+    fn fill_entry(self, e: QueryEntry, mask: Mask, out: &mut [u32]) -> Mask
+        requires { length out.old ≡ 256 }
+        ensures { Fills (λ i. Some (word_of self.entry.bindings.now i (entry_of e))) mask.live
+            out.old result.live out.new }
+    {
+        for i in 0..mask.end() {
+            out[i] = chosen(mask.live[i], self.value(e, Lane(i)), out[i]);
+        }
+        mask
+    }
+
+    // Each lane of the mask that is answered has its word in `out`; the lanes that were.
+    #[tactic(auto, unfolding(crate::specs::Lanes::asked))]
+    pub fn fill(self, ask: Ask, mask: Mask, out: &mut [u32]) -> Mask
+        requires { AskFits self.words.now self.chains.now ask × (length out.old ≡ 256) }
+        ensures lanes { result.live ≡ answered_lanes (asked self.entry.words.now self.entry.bindings.now ask) mask.live }
+        ensures words { out.new ≡ answered_words (asked self.entry.words.now self.entry.bindings.now ask) mask.live
+            out.old }
+    {
+        match ask {
+            Ask::Lookup { of, key, col } => self.lookup_row_vectorized(of, key, col, mask, out),
+            Ask::External { func, args } => self.invoke_batch(func, args, mask, out),
+            Ask::Var(v) => self.fill_entry(QueryEntry::Var(v), mask, out),
+            Ask::Const(x) => self.fill_entry(QueryEntry::Const(x), mask, out),
+        }
+    }
+
+    // Whether two entries are equal in a lane; whether they differ, where `equal` is false.
+    fn agree(self, l: QueryEntry, r: QueryEntry, equal: bool, lane: Lane) -> bool
+        ensures { result ≡ agreed self.entry.bindings.now l r equal lane.0 }
+    {
+        let same = self.value(l, lane) == self.value(r, lane);
+        same == equal
+    }
+
+    // Whether some pair of a lane's words differs.
+    fn differ(self, ops: Entries, divider: usize, lane: Lane) -> bool
+        requires { Short ops }
+        ensures { result ≡ holds self.entry.words.now self.entry.bindings.now (AnyNe ops divider) lane.0 }
+    {
+        let count = ops.count;
+        let mut vals = [0u32; 16];
+        bindings::fetch_into(self.words, self.bindings, lane, ops.at, count, &mut vals);
+        any_ne(&vals[..count], divider)
+    }
+
+    fn assert_impl(self, l: QueryEntry, r: QueryEntry, equal: bool, mask: Mask) -> Mask
+        ensures { result.live ≡ kept (agreed self.entry.bindings.now l r equal) mask.live }
+    {
+        retain_by(mask, |live, lane| live & self.agree(l, r, equal, lane))
+    }
+
+    fn retain_any_ne(self, ops: Entries, divider: usize, mask: Mask) -> Mask
+        requires { Short ops }
+        ensures { result.live ≡ kept (holds self.entry.words.now self.entry.bindings.now (AnyNe ops divider)) mask.live }
+    {
+        retain_by(mask, |live, lane| live && self.differ(ops, divider, lane))
+    }
+
+    // The lanes of the mask that pass; the others are dropped.
+    #[tactic(auto, unfolding(crate::specs::Lanes::holds))]
+    pub fn retain(self, test: Test, mask: Mask) -> Mask
+        requires { TestFits test }
+        ensures { result.live ≡ kept (holds self.entry.words.now self.entry.bindings.now test) mask.live }
+    {
+        match test {
+            Test::Eq(l, r) => self.assert_impl(l, r, true, mask),
+            Test::Ne(l, r) => self.assert_impl(l, r, false, mask),
+            Test::AnyNe { ops, divider } => self.retain_any_ne(ops, divider, mask),
+        }
     }
 }

@@ -16,7 +16,6 @@ use Rattle.execution.specs.declared.Stop.TheVariants.{Spent, Full}
 use Rattle.execution.specs.declared.ExecutionState.{ExecutionState}
 use Rattle.execution.specs.Execution.{is_going, stopped, Logged, staged}
 use Rattle.predict.specs.declared.Row.{Row}
-use Rattle.predict.specs.declared.Got.{Got}
 use Rattle.predict.specs.declared.Asking.{Asking}
 
 -- what the code may suppose of the words lent for the log and the index
@@ -34,14 +33,19 @@ pub record Held : Type 0 where
 abbrev pub as_held : ExecutionState → (log index : List ℕ) → Held
 as_held state log index = record { state = state; log = log; index = index }
 
+-- a row was got: whether it was made, and what the run keeps
+pub record Got : Type 0 where
+  pub made : Bool
+  pub state : ExecutionState
+
 -- what was got, and the log and index after it
 pub record Gotten : Type 0 where
   pub got : Got
   pub log : List ℕ
   pub index : List ℕ
 
-abbrev pub as_gotten : Got → (log index : List ℕ) → Gotten
-as_gotten got log index = record { got = got; log = log; index = index }
+abbrev pub as_gotten : Bool → ExecutionState → (log index : List ℕ) → Gotten
+as_gotten made state log index = record { got = record { made = made; state = state }; log = log; index = index }
 
 -- with the lanes' words
 pub record Served : Type 0 where

@@ -26,6 +26,12 @@ pub record Early (p : Progress) : Type 0 where
   pub done : p.done < 64
   pub at : p.at ≤ 8483 * 64
 
+-- what one step leaves: of the log's n words no more are used, one step more has answered at most, with 8483 words at most
+pub record Within (p q : Progress) (n : ℕ) : Type 0 where
+  pub used : q.state.used ≤ n
+  pub done : q.done ≤ p.done + 1
+  pub at : q.at ≤ p.at + 8483
+
 -- a step has answered, and the words up to `end` are used; it has not
 abbrev pub advanced : ExecutionState → ℕ → Progress → Progress
 advanced x end p = record { state = x; done = p.done + 1; at = end; lengths = set p.lengths p.done (end - p.at) }

@@ -30,7 +30,7 @@ use Rattle.instr.specs.declared.Instr.TheVariants.{LookupOrInsertDefault, Lookup
 use Rattle.instr.specs.Meaning.{entries_of, writes_of, instr_of}
 use Rattle.lanes.specs.declared.Ask.TheVariants.{Const as AskConst}
 use Rattle.lanes.specs.Lanes.{asked, is_some, or_else, answered_lanes, answered_words}
-use Rattle.execution.specs.declared.Change.TheVariants as change
+use Rattle.record_log.specs.declared.Change.TheVariants as change
 use Rattle.execution.specs.declared.ExecutionState.{ExecutionState}
 use Rattle.execution.specs.Execution.{Logged}
 use Rattle.predict.specs.Predict.{Served, served_lanes}

@@ -33,8 +33,8 @@ use Rattle.instr.specs.Meaning.{entry_of, entries_of}
 use Rattle.lanes.specs.declared.Test.TheVariants.{Eq}
 use Rattle.lanes.specs.Lanes.{listed, holds, kept}
 use Rattle.record_log.specs.RecordLaws.{Sized}
-use Rattle.execution.specs.declared.Change.{Change}
-use Rattle.execution.specs.declared.Change.TheVariants.{Insert, Remove}
+use Rattle.record_log.specs.declared.Change.{Change}
+use Rattle.record_log.specs.declared.Change.TheVariants.{Insert, Remove}
 use Rattle.execution.specs.declared.ExecutionState.{ExecutionState}
 use Rattle.execution.specs.Execution.{goes_on, is_going as code_goes, changing, Logged, after_append, staged, record_kind, staged_lane, staged_lanes}
 use Rattle.simulation.specs.Represents.{machine, LogIs, Follows, sticks, stops, goes, ListIs, list_read, front_list, pass_ends}

@@ -4,7 +4,6 @@
 ghost use Rattle.std.specs.Prelude.{◌≡◌, ◌+◌, ◌*◌, ◌≤◌, ◌<◌, length};
 ghost use Rattle.model.specs.Book.Contents.{first_of, kind_of, table_count};
 ghost use Rattle.model.specs.Laws.Book.{Readable};
-ghost use Rattle.contents.specs.Contents.{ContentsOf};
 ghost use Rattle.hash_index.specs.Book.{BookIndex};
 ghost use Rattle.predict.specs.Predict.{Ready, as_gotten};
 ghost use Rattle.action.specs.Run.{as_running};
@@ -14,11 +13,12 @@ use action::Batch;
 use args::Args;
 use bindings::Bindings;
 use bound_vars::Bound;
-use contents::Contents;
+use contents::Book;
 use execution::ExecutionState;
 use ids::TableId;
+use lanes::View;
 use mask::Mask;
-use predict::{Got, Keyed, Row};
+use predict::{Keyed, Row};
 use predicted_index::Sought;
 
 // With no columns a batch has one lane.
@@ -31,22 +31,22 @@ fn lane_count(v: u32, lanes: usize) -> usize
 // The batch of entry i: its own columns, all lanes live, and then its rule.
 #[tactic(auto, unfolding(crate::specs::Steps::ran_batch))]
 pub fn run_batch(
-    words: &[u32],
+    book: Book,
     chains: &[u32],
-    contents: Contents,
     i: usize,
-    state: ExecutionState,
+    s: &mut ExecutionState,
     bindings: &mut [u32],
     log: &mut [u32],
     index: &mut [u32],
 ) -> Batch
-    requires { Readable words.now × BookIndex words.now (table_count words.now) chains.now × ContentsOf words.now contents
-        × IsStep words.now i × (kind_of words.now i ≡ 4) × Ready state log.old index.old
+    requires { BookIndex book.words.now (table_count book.words.now) chains.now
+        × IsStep book.words.now i × (kind_of book.words.now i ≡ 4) × Ready s.old log.old index.old
         × (length bindings.old ≡ 8192) }
-    ensures is { as_running result bindings.new log.new index.new
-        ≡ ran_batch words.now (first_of words.now i) state log.old index.old }
-    ensures fits { result.state.used ≤ length log.old }
+    ensures is { as_running result s.new bindings.new log.new index.new
+        ≡ ran_batch book.entry.words.now (first_of book.entry.words.now i) s.old log.old index.old }
+    ensures fits { s.new.used ≤ length log.old }
 {
+    let words = book.words;
     let at = contents::first_of(words, i);
     let rule = words::size_at(words, at);
     let n = words::size_at(words, at + 1);
@@ -58,12 +58,12 @@ pub fn run_batch(
         matches: lanes,
         bound: Bound::first(v as usize),
     };
-    let start = Batch {
+    let mut batch = Batch {
         bindings: kept,
         mask: Mask::new(lanes),
-        state,
     };
-    action::run_instrs(words, chains, contents, rule, start, bindings, log, index)
+    action::run_instrs(book, chains, rule, &mut batch, s, bindings, log, index);
+    batch
 }
 
 // The key of the prediction of entry i.
@@ -76,24 +76,23 @@ fn key_asked(words: &[u32], i: usize) -> Args
     args::words_at(words, at + 2, n)
 }
 
-// The prediction of entry i. Its write values are constants and counters, so what the bindings hold does not matter.
+// The prediction of entry i; whether its row was made. Its write values are constants and counters, so what the bindings hold does not matter.
 #[tactic(auto, unfolding(crate::specs::Steps::asked_row))]
 pub fn run_prediction(
-    words: &[u32],
-    chains: &[u32],
+    view: View,
     i: usize,
-    state: ExecutionState,
-    bindings: &[u32],
+    s: &mut ExecutionState,
     log: &mut [u32],
     index: &mut [u32],
-) -> Got
-    requires { Readable words.now × BookIndex words.now (table_count words.now) chains.now × IsStep words.now i
-        × (kind_of words.now i ≡ 5) × Ready state log.old index.old }
-    ensures is { as_gotten result log.new index.new
-        ≡ asked_row words.now bindings.now (first_of words.now i) state
+) -> bool
+    requires { Readable view.words.now × BookIndex view.words.now (table_count view.words.now) view.chains.now
+        × IsStep view.words.now i × (kind_of view.words.now i ≡ 5) × Ready s.old log.old index.old }
+    ensures is { as_gotten result s.new log.new index.new
+        ≡ asked_row view.entry.words.now view.entry.bindings.now (first_of view.entry.words.now i) s.old
         log.old index.old }
-    ensures fits { result.state.used ≤ length log.old }
+    ensures fits { s.new.used ≤ length log.old }
 {
+    let words = view.words;
     let at = contents::first_of(words, i);
     let n = words::size_at(words, at + 1);
     let row = Row {
@@ -104,7 +103,7 @@ pub fn run_prediction(
         row,
         key: key_asked(words, i),
     };
-    predict::predict_val(words, chains, bindings, want, state, log, index)
+    predict::predict_val(view, want, s, log, index)
 }
 
 // The row that it answers, where it stands by now.

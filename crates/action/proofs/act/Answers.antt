@@ -9,23 +9,21 @@ use Rattle.action.proofs.act.Goals as goal
 pub lookup_or_insert_default-requires : goal.lookup_or_insert_default-requires
 lookup_or_insert_default-requires c =
     let p = c.requires in
-    let a = c.args in
+    let v = c.args.view in
     let s = rw c.in-LookupOrInsertDefault.is at p.2 in
-    rw c.predicted_ask.ensures (searchable a.words.now a.chains.now p.0 p.1 _ s.0, s.1, s.2, p.3, p.4)
+    rw c.predicted_ask-ask.ensures (searchable v.words.now v.chains.now p.0 p.1 _ s.0, s.1, s.2, p.3, p.4)
 
 pub fill_or_else-requires : goal.fill_or_else-requires
 fill_or_else-requires c =
-    let a = c.args in
+    let v = c.args.view in
     let p = c.requires in
     let s = rw c.in-LookupWithDefault.is at p.2 in
-    let e = entry_fits_lem a.words.now a.chains.now _ _ c.entry_ask.ensures in
-    rw c.row_ask.ensures ((searchable a.words.now a.chains.now p.0 p.1 _ s.0, s.1), e, p.4)
+    let e = entry_fits_lem v.words.now v.chains.now _ _ c.entry_ask.ensures in
+    rw c.row_ask-ask.ensures ((searchable v.words.now v.chains.now p.0 p.1 _ s.0, s.1), e, p.4)
 
-pub returns-in-InsertIfEq : goal.returns-in-InsertIfEq
+pub returns-in-InsertIfEq-clause-is : goal.returns-in-InsertIfEq-clause-is
 unfolding acted
-returns-in-InsertIfEq c =
-    let retain = c.retain in
+returns-in-InsertIfEq-clause-is c =
     let a = c.args in
-    let e = c.stage_lanes-in-InsertIfEq.ensures in
-    let l : Lanes = record { live = a.start.mask.live; state = a.start.state; log = a.log.now; index = a.index.now; out = a.out.now } in
-    record { is = rw (c.in-InsertIfEq.is, ← retain.ensures) (ap (λ (g : Logged). with_log g l) e.is); fits = e.fits }
+    let l : Lanes = record { live = a.mask.live; state = a.s.now; log = a.log.now; index = a.index.now; out = a.out.now } in
+    rw (c.in-InsertIfEq.is, ← c.retain.ensures) (ap (λ (g : Logged). with_log g l) c.stage_lanes-in-InsertIfEq.ensures.is)

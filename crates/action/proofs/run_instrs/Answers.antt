@@ -10,35 +10,32 @@ use Rattle.contents.specs.ContentsLaws.{first_rule_is}
 use Rattle.instr.specs.Instr.{instr_at}
 use Rattle.rules.specs.RuleLaws.{At, many, small_here, stands_here}
 use Rattle.action.proofs.run_instrs.Goals as goal
-use Rattle.action.proofs.run_instrs.Goals.{After-size-n, In-loop}
+use Rattle.action.proofs.run_instrs.Goals.{After-size_at-n, In-loop}
 
 -- the rule's first word, and how many instructions it has
-first_is : (c : After-size-n) → c.first_of-first.result ≡ rule_first c.args.words.now c.args.r
+first_is : (c : After-size_at-n) → c.first_of-first.result ≡ rule_first c.args.book.words.now c.args.r
 first_is c =
-    let pre = c.requires in
-    c.first_of-first.ensures.0 ∙ ap (λ (b : ℕ). first_of c.args.words.now (b + c.args.r)) (first_rule_is pre.2 c.first_rule.ensures)
+    let b = c.args.book in
+    c.first_of-first.ensures.0 ∙ ap (λ (n : ℕ). first_of b.words.now (n + c.args.r)) (first_rule_is b.contained c.first_rule.ensures)
 
-many_is : (c : After-size-n) → c.size-n.result ≡ many c.args.words.now c.args.r
-many_is c = c.size-n.ensures.0 ∙ c.word.ensures ∙ ap (λ (x : ℕ). get_or c.args.words.now (x + 1) 0) (first_is c)
+many_is : (c : After-size_at-n) → c.size_at-n.result ≡ many c.args.book.words.now c.args.r
+many_is c = c.size_at-n.ensures.0 ∙ ap (λ (x : ℕ). get_or c.args.book.words.now (x + 1) 0) (first_is c)
 
 -- the instruction at p
-here : (c : In-loop) → c.size-n.result ≡ many c.args.words.now c.args.r → At c.args.words.now c.args.r c.loop.counter c.loop.p (instr_at c.args.words.now c.loop.p)
-here c n =
-    let pre = c.requires in
-    record { readable = pre.0; rule = pre.3; below = omega (arith, n, c.loop-test.true); place = c.loop.invariant.0; is = refl }
+here : (c : In-loop) → c.size_at-n.result ≡ many c.args.book.words.now c.args.r → At c.args.book.words.now c.args.r c.loop.counter c.loop.p (instr_at c.args.book.words.now c.loop.p)
+here c n = record { readable = c.args.book.readable; rule = c.requires.1; below = omega (arith, n, c.loop-test.true); place = c.loop.invariant.0; is = refl }
 
 pub first_of-first-requires : goal.first_of-first-requires
 first_of-first-requires c =
-    let a = c.args in
-    let q = c.requires in
-    omega (arith, first_rule_is q.2 c.first_rule.ensures, rule_entry a.words.now q.0 a.r q.3)
+    let b = c.args.book in
+    omega (arith, first_rule_is b.contained c.first_rule.ensures, rule_entry b.words.now b.readable c.args.r c.requires.1)
 
-pub run_next-batch-requires : goal.run_next-batch-requires
-run_next-batch-requires c =
+pub run_next-requires : goal.run_next-requires
+run_next-requires c =
     let q = c.requires in
     let l = c.loop in
-    let x = here (goal.at.run_next-batch-requires c).In-loop (many_is (goal.at.run_next-batch-requires c).After-size-n) in
-    (q.0, q.1, small_here x, stands_here x, record { used = omega arith; short = omega (arith, q.4.short); slots = l.auto.index ∙ q.4.slots }, l.auto.bindings ∙ q.5)
+    let x = here (goal.at.run_next-requires c).In-loop (many_is (goal.at.run_next-requires c).After-size_at-n) in
+    (c.args.book.readable, q.0, small_here x, stands_here x, record { used = omega arith; short = omega (arith, q.2.short); slots = l.auto.index ∙ q.2.slots }, l.auto.bindings ∙ q.3)
 
 pub next-p-requires : goal.next-p-requires
-next-p-requires c = small_here (here (goal.at.next-p-requires c).In-loop (many_is (goal.at.next-p-requires c).After-size-n))
+next-p-requires c = small_here (here (goal.at.next-p-requires c).In-loop (many_is (goal.at.next-p-requires c).After-size_at-n))

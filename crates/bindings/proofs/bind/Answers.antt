@@ -19,4 +19,4 @@ returns c =
     let words = front.result.now in
     let is : words ≡ take 256 (take a.lanes a.column.now) = front.ensures ∙ rw c.min.ensures (take_least a.lanes 256 a.column.now) in
     let copied = put_mid-paste _ _ a.bindings.now _ words (length words) c.copy_from_slice.ensures.after (omega arith) refl in
-    bound_front _ _ _ _ words _ _ (ap (λ (v : ℕ). 256 * v) c.size-at.ensures.0) is copied (c.fill.ensures.after (λ y e. e)) c.requires
+    bound_front _ _ _ _ words _ _ refl is copied (c.fill.ensures.after (λ y e. e)) c.requires

@@ -5,11 +5,11 @@ use Rattle.build.specs.Build.{built}
 use Rattle.build.specs.BuildLaws.{built_fits, spent_early}
 use Rattle.build.proofs.build.Goals as goal
 
-pub returns-in_err-b-clause-is : goal.returns-in_err-b-clause-is
-returns-in_err-b-clause-is c =
+pub returns-in_err-write-clause-is : goal.returns-in_err-write-clause-is
+returns-in_err-write-clause-is c =
     let a = c.args in
     let l = c.loop-k in
-    c.from_residual.ensures ∙ spent_early a.bindings.now a.lane.0 a.words.now a.key a.vals.at a.vals.count l.k a.counters l.b c.loop-k-test.true l.invariant (rw c.write_at.ensures at (sym c.in_err-b.ensures))
+    c.from_residual.ensures ∙ spent_early a.view.bindings.now a.lane.0 a.view.words.now a.key a.vals.at a.vals.count l.k a.counters l.b c.loop-k-test.true l.invariant (rw c.write_at-v.ensures at (sym c.in_err-write.ensures))
 
 pub returns-clause-is : goal.returns-clause-is
 unfolding built
@@ -23,5 +23,5 @@ returns-clause-fits c =
     let a = c.args in
     let l = c.loop-k in
     let e : l.k ≡ a.vals.count = omega arith in
-    let is : Some l.b ≡ built a.words.now a.bindings.now a.lane.0 a.key a.vals.at a.vals.count a.counters = rw (← e) l.invariant in
-    subst (λ (o : Option Building). IfSome o (λ b. b.row.count ≤ 16)) (sym is) (built_fits a.bindings.now a.lane.0 a.words.now a.key a.vals.at a.vals.count a.counters c.requires.1)
+    let is : Some l.b ≡ built a.view.words.now a.view.bindings.now a.lane.0 a.key a.vals.at a.vals.count a.counters = rw (← e) l.invariant in
+    subst (λ (o : Option Building). IfSome o (λ b. b.row.count ≤ 16)) (sym is) (built_fits a.view.bindings.now a.lane.0 a.view.words.now a.key a.vals.at a.vals.count a.counters c.requires.1)

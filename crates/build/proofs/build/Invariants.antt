@@ -6,4 +6,4 @@ use Rattle.build.specs.Build.{written_next}
 use Rattle.build.proofs.build.Given as goal
 
 abbrev pub invariant-loop-k : goal.invariant-loop-k
-invariant-loop-k l = Some l.b ≡ iter (λ j. written_next l.words l.bindings l.lane.0 (l.vals.at + 2 * j)) l.k (Some l.initial.b)
+invariant-loop-k l = Some l.b ≡ iter (λ j. written_next l.view.words.now l.view.bindings.now l.lane.0 (l.vals.at + 2 * j)) l.k (Some l.initial.b)

@@ -7,26 +7,23 @@ use Rattle.contents.specs.ContentsLaws.{first_step_is}
 use Rattle.conclude.specs.SettleLaws.{concluded_by}
 use Rattle.conclude.proofs.conclude.Goals as goal
 
-pub overflow_add-step : goal.overflow_add-step
-overflow_add-step c =
-    let a = c.args in
-    let pre = c.requires in
-    let w = a.words.now in
-    omega (arith, first_step_is pre.1 c.first_step.ensures, pre.2, few_tables w pre.0, few_counters w pre.0, few_rules w pre.0)
+pub overflow_add-first_step : goal.overflow_add-first_step
+overflow_add-first_step c =
+    let b = c.args.book in
+    let w = b.words.now in
+    omega (arith, first_step_is b.contained c.first_step.ensures, c.requires.0, few_tables w b.readable, few_counters w b.readable, few_rules w b.readable)
 
 pub settle-requires : goal.settle-requires
 settle-requires c =
     let pre = c.requires in
-    (pre.0, pre.1, pre.3, pre.4 c.in-None.is)
+    (pre.1, pre.2 c.in-None.is)
 
 pub returns-in-None : goal.returns-in-None
 returns-in-None c =
     let a = c.args in
-    let settle = c.settle in
-    settle.ensures ∙ concluded_by a.words.now a.p a.log.now a.tables.now a.answer.now None c.in-None.is
+    c.settle.ensures ∙ concluded_by a.book.words.now a.p.now a.log.now a.tables.now a.answer.now None c.in-None.is
 
 pub returns-in-Some : goal.returns-in-Some
 returns-in-Some c =
-    let pre = c.requires in
     let a = c.args in
-    rw (c.refused.ensures, first_step_is pre.1 c.first_step.ensures) (concluded_by a.words.now a.p a.log.now a.tables.now a.answer.now (Some c.in-Some.why) c.in-Some.is)
+    rw (c.refused.ensures, first_step_is a.book.contained c.first_step.ensures) (concluded_by a.book.words.now a.p.now a.log.now a.tables.now a.answer.now (Some c.in-Some.why) c.in-Some.is)

@@ -11,14 +11,14 @@ pub slice_bounds-commit-end : goal.slice_bounds-commit-end
 slice_bounds-commit-end c =
     let a = c.args in
     let pre = c.requires in
-    sym (length-take-le a.p.state.used a.log.now pre.3.used)
+    sym (length-take-le a.p.now.state.used a.log.now pre.1.used)
 
 pub commit-done-requires : goal.commit-done-requires
 commit-done-requires c =
     let a = c.args in
     let pre = c.requires in
-    let n = c.table_count.ensures ∙ pre.1.tables in
-    (omega (arith, n, few_tables a.words.now pre.0), omega (arith, length-take-le a.p.state.used a.log.now pre.3.used, pre.3.short, pre.3.used), omega (arith, pre.2), λ t l. ready_table a.words.now pre.0.contents pre.0.bodies t (omega (arith, n)))
+    let n = c.table_count.ensures ∙ a.book.contained.tables in
+    (omega (arith, n, few_tables a.book.words.now a.book.readable), omega (arith, length-take-le a.p.now.state.used a.log.now pre.1.used, pre.1.short, pre.1.used), omega (arith, pre.0), λ t l. ready_table a.book.words.now a.book.readable.contents a.book.readable.bodies t (omega (arith, n)))
 
 pub returns-then-done : goal.returns-then-done
 returns-then-done c =
@@ -26,7 +26,7 @@ returns-then-done c =
     let a = c.args in
     let pre = c.requires in
     let commit = c.commit-done in
-    settled_over a.words.now a.p a.log.now a.tables.now a.answer.now _ (table-count.ensures ∙ pre.1.tables) (record { words = commit.new.rows; result = commit.result }) commit.ensures c.if-done.true
+    settled_over a.book.words.now a.p.now a.log.now a.tables.now a.answer.now _ (table-count.ensures ∙ a.book.contained.tables) (record { words = commit.new.rows; result = commit.result }) commit.ensures c.if-done.true
 
 pub assemble-requires : goal.assemble-requires
 assemble-requires c =
@@ -35,7 +35,7 @@ assemble-requires c =
     let a = c.args in
     let commit = c.commit-done in
     let if1 = c.if-done in
-    (pre.0, pre.3.used, enough_here a.words.now a.p a.log.now a.tables.now a.answer.now _ (table-count.ensures ∙ pre.1.tables) (record { words = commit.new.rows; result = commit.result }) commit.ensures if1.false pre.0 pre.2 commit.auto.rows pre.3)
+    (a.book.readable, pre.1.used, enough_here a.book.words.now a.p.now a.log.now a.tables.now a.answer.now _ (table-count.ensures ∙ a.book.contained.tables) (record { words = commit.new.rows; result = commit.result }) commit.ensures if1.false a.book.readable pre.0 commit.auto.rows pre.1)
 
 pub returns : goal.returns
 returns c =
@@ -45,4 +45,4 @@ returns c =
     let commit = c.commit-done in
     let if1 = c.if-done in
     let assemble = c.assemble in
-    settled_answer a.words.now a.p a.log.now a.tables.now a.answer.now _ (table-count.ensures ∙ pre.1.tables) (record { words = commit.new.rows; result = commit.result }) commit.ensures if1.false assemble.result assemble.new.answer assemble.ensures.length assemble.ensures.words
+    settled_answer a.book.words.now a.p.now a.log.now a.tables.now a.answer.now _ (table-count.ensures ∙ a.book.contained.tables) (record { words = commit.new.rows; result = commit.result }) commit.ensures if1.false assemble.result assemble.new.answer assemble.ensures.length assemble.ensures.words

@@ -16,8 +16,8 @@ use Rattle.engine.proofs.counters_of.Goals.{After-counter_count-n}
 -- there are at most 16 tables and 16 counters
 few : (c : After-counter_count-n) → c.counter_count-n.result ≤ 16
 few c =
-    let pre = c.requires in
-    omega (arith, c.counter_count-n.ensures, pre.1.counters, few_counters c.args.words.now pre.0)
+    let b = c.args.book in
+    omega (arith, c.counter_count-n.ensures, b.contained.counters, few_counters b.words.now b.readable)
 
 many : (c : After-counter_count-n) → length (take {A = ℕ} c.counter_count-n.result (replicate 16 0)) ≡ c.counter_count-n.result
 many c = length-take-le c.counter_count-n.result (replicate 16 0) (few c)
@@ -33,23 +33,23 @@ loop-c-init c = filled_none _ _
 
 pub first_of-requires : goal.first_of-requires
 first_of-requires c =
-    let pre = c.requires in
-    omega (arith, few (goal.at.first_of-requires c).After-counter_count-n, many (goal.at.first_of-requires c).After-counter_count-n, c.table_count-tables.ensures, pre.1.tables, few_tables c.args.words.now pre.0)
+    let b = c.args.book in
+    omega (arith, few (goal.at.first_of-requires c).After-counter_count-n, many (goal.at.first_of-requires c).After-counter_count-n, c.table_count-tables.ensures, b.contained.tables, few_tables b.words.now b.readable)
 
 pub loop-c-preserved : goal.loop-c-preserved
 loop-c-preserved c =
-    let w = c.args.words.now in
+    let w = c.args.book.words.now in
     let l = c.loop-c in
     filled_turn (λ k. get_or w (first_of w (c.table_count-tables.result + k)) 0) l.c (take c.counter_count-n.result (replicate 16 0)) l.word-items c.word.result 0 l.invariant (c.word.ensures ∙ ap (λ (p : ℕ). get_or w p 0) c.first_of.ensures.0) (omega arith)
 
 pub returns : goal.returns
 returns c =
-    let w = c.args.words.now in
-    let pre = c.requires in
+    let w = c.args.book.words.now in
+    let b = c.args.book in
     let n = c.counter_count-n.result in
     let f : ℕ → ℕ = λ k. get_or w (first_of w (c.table_count-tables.result + k)) 0 in
     let zeros : List ℕ = replicate 16 0 in
     let all : c.loop-c.word-items ≡ tab f n =
     let e : c.loop-c.c ≡ length (take n zeros) = omega arith in
     c.loop-c.invariant ∙ ap (λ (k : ℕ). filled f k (take n zeros)) e ∙ filled_all f (take n zeros) ∙ ap (tab f) (many (goal.at.returns c).After-counter_count-n) in
-    counters_filled w (c.loop-c.word-items ++ drop n zeros) c.table_count-tables.result n (ap (λ (l : List ℕ). l ++ drop n zeros) all) (c.table_count-tables.ensures ∙ pre.1.tables) (c.counter_count-n.ensures ∙ pre.1.counters)
+    counters_filled w (c.loop-c.word-items ++ drop n zeros) c.table_count-tables.result n (ap (λ (l : List ℕ). l ++ drop n zeros) all) (c.table_count-tables.ensures ∙ b.contained.tables) (c.counter_count-n.ensures ∙ b.contained.counters)

@@ -8,17 +8,15 @@ use Rattle.run.specs.declared.Progress.{Progress}
 use Rattle.engine.specs.CodeLaws.{may_conclude, book_concludes}
 use Rattle.engine.proofs.run_book.Goals as goal
 
-pub of-contents-requires : goal.of-contents-requires
-of-contents-requires c =
+pub of-requires : goal.of-requires
+of-requires c =
     let pre = c.requires in
     few_entries c.args.words.now pre.0.readable
 
-pub run_steps-p-requires : goal.run_steps-p-requires
-run_steps-p-requires c =
+pub run_steps-requires : goal.run_steps-requires
+run_steps-requires c =
     let p = c.requires in
-    let s = c.start.ensures in (
-      p.0.readable,
-      c.of-contents.ensures,
+    let s = c.start-p.ensures in (
       ap (λ (p : Progress). p.done) s,
       ap (λ (p : Progress). p.at) s,
       record { used = omega (arith, ap (λ (p : Progress). p.state.used) s); short = p.4; slots = ap length p.2 ∙ length-replicate {A = ℕ} 8192 0 },
@@ -29,17 +27,15 @@ pub conclude-requires : goal.conclude-requires
 conclude-requires c =
     let p = c.requires in
     let a = c.args in
-    let r = c.run_steps-p in (
-      p.0.readable,
-      c.of-contents.ensures,
+    let r = c.run_steps in (
       r.ensures.fits.1,
       p.5,
-      may_conclude a.words.now p.0 a.bindings.now a.index.now a.log.now a.answer.now p.4 p.2 p.3 p.6 _ c.start.ensures _ r.ensures.is r.auto.log r.ensures.fits.2 r.ensures.fits.0,
+      may_conclude a.words.now p.0 a.bindings.now a.index.now a.log.now a.answer.now p.4 p.2 p.3 p.6 _ c.start-p.ensures _ r.ensures.is r.auto.log r.ensures.fits.2 r.ensures.fits.0,
     )
 
 pub returns : goal.returns
 returns c =
     let p = c.requires in
     let a = c.args in
-    let r = c.run_steps-p in
-    book_concludes a.words.now p.0 a.bindings.now a.index.now a.log.now a.answer.now p.4 p.2 p.3 p.6 _ c.start.ensures _ r.ensures.is r.auto.log r.auto.answer a.tables.now p.5 _ c.conclude.ensures
+    let r = c.run_steps in
+    book_concludes a.words.now p.0 a.bindings.now a.index.now a.log.now a.answer.now p.4 p.2 p.3 p.6 _ c.start-p.ensures _ r.ensures.is r.auto.log r.auto.answer a.tables.now p.5 _ c.conclude.ensures

@@ -11,4 +11,4 @@ returns-clause-is c =
     let a = c.args in
     let l = c.loop-i in
     let m = a.mask.live in
-    live_turns m (search rules) (λ k. staged_lane a.what.change a.what.table.0 (listed a.words.now a.bindings.now k a.what.vals) (get_or m k false)) l.i _ _ l.invariant.1 (omega arith) (λ k q. rw q)
+    live_turns m (search rules) (λ k. staged_lane a.what.change a.what.table.0 (listed a.view.words.now a.view.bindings.now k a.what.vals) (get_or m k false)) l.i _ _ l.invariant.1 (omega arith) (λ k q. rw q)

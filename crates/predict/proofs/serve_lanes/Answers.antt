@@ -9,5 +9,5 @@ unfolding served_lanes served_lane
 returns-clause-is c =
     let a = c.args in
     let l = c.loop-i in
-    let m = a.start.mask.live in
-    live_turns m (search rules) (λ k. served_lane a.words.now a.bindings.now a.ask (get_or m k false) k) l.i _ _ l.invariant.1 (omega arith) (λ k q. rw q)
+    let m = a.mask.live in
+    live_turns m (search rules) (λ k. served_lane a.view.words.now a.view.bindings.now a.ask (get_or m k false) k) l.i _ _ l.invariant.1 (omega arith) (λ k q. rw q)

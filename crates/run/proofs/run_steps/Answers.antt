@@ -8,9 +8,8 @@ use Rattle.run.proofs.run_steps.Goals as goal
 
 pub build_all-requires : goal.build_all-requires
 build_all-requires c =
-    let a = c.args in
-    let w = a.words.now in
-    let q = c.requires in
-    let n = c.table_count-tables.ensures ∙ q.1.tables in
+    let b = c.args.book in
+    let w = b.words.now in
+    let n = c.table_count-tables.ensures ∙ b.contained.tables in
     let few = serves_few c.rows_before.result (sym c.serves.ensures ∙ c.if-serves.true) in
-    (rw n (few_tables w q.0), λ t l. table_stands w q.0 t (omega (arith, l, n)), rw c.rows_before.ensures at few, refl)
+    (rw n (few_tables w b.readable), λ t l. table_stands w b.readable t (omega (arith, l, n)), rw c.rows_before.ensures at few, refl)

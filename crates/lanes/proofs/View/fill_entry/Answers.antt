@@ -1,7 +1,7 @@
 -- After i lanes each live one of them has its word, and the mask is as it was (`answered_still`); past the last live lane nothing is left (`answered_all`).
 use Rattle.std.proofs.Common.{refl, ◌∙◌, arith, rules}
 use Rattle.lanes.specs.PassLaws.{answered_none, answered_still, answered_all}
-use Rattle.lanes.proofs.fill_entry.Goals as goal
+use Rattle.lanes.proofs.View.fill_entry.Goals as goal
 
 pub loop-i-init : goal.loop-i-init
 loop-i-init c = answered_none _ _ _ (search rules) c.requires

@@ -5,11 +5,11 @@ use native.Mathlib.Omega.{arith}
 use Rattle.model.specs.Book.Contents.{step_count}
 use Rattle.model.specs.Laws.Book.{few_steps}
 use Rattle.run.specs.Progress.{ran_steps}
-use Rattle.run.proofs.Book.run_steps.Goals as goal
+use Rattle.run.proofs.run_each.Goals as goal
 
-pub run_next-p-requires : goal.run_next-p-requires
-run_next-p-requires c =
-    let b = c.args.self in
+pub run_next-requires : goal.run_next-requires
+run_next-requires c =
+    let b = c.args.book in
     let q = c.requires in
     let l = c.loop in
     let k : l.counter < step_count b.words.now = omega (arith, c.loop-test.true, c.step_count-end.ensures, b.contained.steps) in
@@ -19,7 +19,7 @@ run_next-p-requires c =
 pub returns : goal.returns
 unfolding ran_steps
 returns c =
-    let b = c.args.self in
+    let b = c.args.book in
     let l = c.loop in
     let e : l.counter ≡ step_count b.words.now = omega (arith, c.loop-test.false, c.step_count-end.ensures, b.contained.steps) in
     let few = few_steps b.words.now b.readable in

@@ -4,30 +4,25 @@ use mathlib.Core.Path.{ap, ◌∙◌}
 use native.Mathlib.Omega.{arith}
 use Rattle.step_bodies.specs.StepLaws.{batch_most}
 use Rattle.action.specs.Run.{Running}
-use Rattle.run.specs.ProgressLaws.{step_here, kind_here, lanes_most}
+use Rattle.run.specs.ProgressLaws.{lanes_most}
 use borrow.Author.Rules.{rules}
-use Rattle.run.proofs.Book.batch_step.Goals as goal
-use Rattle.run.proofs.Book.batch_step.Goals.{After-run_batch-batch, After-write_batch-end}
+use Rattle.run.proofs.batch_step.Goals as goal
+use Rattle.run.proofs.batch_step.Goals.{After-run_batch-batch, After-write_batch-end}
 
 -- the batch has at most 256 lanes, and its body at most 8483 words
 few : (c : After-run_batch-batch) → c.run_batch-batch.result.bindings.matches ≤ 256
 few c =
     let a = c.args in
-    let b = a.self in
     let q = c.requires in
-    let here = c.first_step.ensures in
-    omega (arith, ap (λ (x : Running). x.batch.bindings.matches) c.run_batch-batch.ensures.is, lanes_most b.readable (step_here b.contained here _ q.1) (kind_here b.contained here _ q.2) a.p.state a.log.now a.index.now)
+    omega (arith, ap (λ (x : Running). x.batch.bindings.matches) c.run_batch-batch.ensures.is, lanes_most a.book.readable q.1 q.2 a.p.now.state a.log.now a.index.now)
 
-most : (c : After-write_batch-end) → c.run_batch-batch.result.bindings.matches ≤ 256 → c.write_batch-end.result ≤ c.args.p.at + 8483
+most : (c : After-write_batch-end) → c.run_batch-batch.result.bindings.matches ≤ 256 → c.write_batch-end.result ≤ c.args.p.now.at + 8483
 most c h =
-    let pre = c.requires in
     let r = c.run_batch-batch in
-    omega (arith, c.write_batch-end.ensures.end, batch_most r.result.bindings.matches r.result.bindings.bound.known r.new.bindings h (r.auto.bindings ∙ pre.5) r.result.mask.live)
+    omega (arith, c.write_batch-end.ensures.end, batch_most r.result.bindings.matches r.result.bindings.bound.known r.new.bindings h (r.auto.bindings ∙ c.requires.5) r.result.mask.live)
 
 pub write_batch-end-requires : goal.write_batch-end-requires
-write_batch-end-requires c =
-    let q = c.requires in
-    (search rules, few (goal.at.write_batch-end-requires c).After-run_batch-batch, omega (arith, q.3.at))
+write_batch-end-requires c = (search rules, few (goal.at.write_batch-end-requires c).After-run_batch-batch, omega (arith, c.requires.3.at))
 
 pub advance-requires : goal.advance-requires
 advance-requires c =
@@ -37,4 +32,4 @@ advance-requires c =
 pub returns-then-going-clause-fits : goal.returns-then-going-clause-fits
 returns-then-going-clause-fits c =
     let small = most (goal.at.returns-then-going-clause-fits c).After-write_batch-end (few (goal.at.returns-then-going-clause-fits c).After-run_batch-batch) in
-    rw c.advance.ensures (c.run_batch-batch.ensures.fits, omega arith, small)
+    rw c.advance.ensures (record { used = c.run_batch-batch.ensures.fits; done = omega arith; at = small })
