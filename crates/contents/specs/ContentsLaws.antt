@@ -9,7 +9,24 @@ use Rattle.model.specs.Laws.Lists.{none_least, some_least}
 use Rattle.model.specs.Book.Contents.{group, most, count, group_of, first_of, members, begins, last_group, entry_fits, count_fits, contents_refusal, first_rule, first_step}
 use Rattle.model.specs.Laws.Contents.{members_le}
 use Rattle.contents.specs.declared.Contents.{Contents}
+use Rattle.contents.specs.declared.KindGroup.{KindGroup}
+use Rattle.contents.specs.declared.KindGroup.TheVariants.{Tables, Counters, Rules, Steps}
 use Rattle.contents.specs.Contents.{ContentsOf}
+use Rattle.contents.specs.Kinds.{group_number}
+use Rattle.std.proofs.Math.Dec.{lit<}
+
+-- the numbers of groups
+pub some_number : (g : KindGroup) → 0 < group_number g
+some_number Tables = lit< tt
+some_number Counters = lit< tt
+some_number Rules = lit< tt
+some_number Steps = lit< tt
+
+pub small_number : (g : KindGroup) → group_number g < 5
+small_number Tables = lit< tt
+small_number Counters = lit< tt
+small_number Rules = lit< tt
+small_number Steps = lit< tt
 
 pub group_rest : (k : ℕ) → (0 < k → 5 < k) → 0 ≡ group k
 group_rest zero h = refl
@@ -83,6 +100,22 @@ module _ (w : List ℕ) where
   entry_test i last g seen first end counts h l a b c d e =
       let s : seen ≡ members w (group_of w i) (suc i) = c ∙ ap (λ (x : ℕ). x + 1) (h g l ∙ ap (λ (x : ℕ). members w x i) b) ∙ omega (arith, own_group i) in
       rw (s, a, b, d, e)
+
+  -- the same of an entry of some group, and of one of none
+  pub group_test : (i last : ℕ) (g : KindGroup) (seen first end : ℕ) (counts : List ℕ) → Counts counts i → last ≡ last_group w i → group_number g ≡ group_of w i → seen ≡ get_or counts (group_number g) 0 + 1 → first ≡ first_of w i → end ≡ begins w i → (leb last (group_number g) && leb seen (most (group_number g)) && eqb first end) ≡ entry_fits w i
+  group_test i last g seen first end counts h a b c d e = by (leb last (group_number g)) ∙ entry_test i last (group_number g) seen first end counts h (small_number g) a b c d e
+    where
+      by : (r : Bool) → (r && leb seen (most (group_number g)) && eqb first end) ≡ (r && ltb 0 (group_number g) && leb seen (most (group_number g)) && eqb first end)
+      by true = rw (lt-ltb 0 (group_number g) (some_number g))
+      by false = refl
+
+  pub no_group : (i : ℕ) → 0 ≡ group_of w i → entry_fits w i ≡ false
+  unfolding entry_fits
+  no_group i e = rw (← e) (by (leb (last_group w i) 0))
+    where
+      by : (r : Bool) → (r && false && leb (members w 0 (suc i)) (most 0) && eqb (first_of w i) (begins w i)) ≡ false
+      by true = refl
+      by false = refl
 
   pub count_true : 0 < count w → count w ≤ 128 → 1 + 3 * count w ≤ length w → count_fits w ≡ true
   unfolding count_fits

@@ -1,2 +1,4 @@
 pub mod Contents
+pub mod Kinds
+pub mod KindLaws
 pub mod ContentsLaws

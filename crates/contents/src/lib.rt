@@ -5,6 +5,7 @@ ghost use Rattle.std.specs.Prelude.{◌≡◌, ◌&&◌, ◌+◌, ◌*◌, ◌�
 ghost use Rattle.model.specs.Book.Contents as contents;
 ghost use Rattle.model.specs.Laws.Book.{Readable};
 ghost use Rattle.contents.specs.Contents.{ContentsOf};
+ghost use Rattle.contents.specs.Kinds.{kind_by, group_by, group_number, number_of};
 ghost use Rattle.refusal.specs.Refusal.{refusal_of};
 
 use refusal::Refusal;
@@ -67,38 +68,84 @@ pub struct Book<'a> {
     ghost contained: { ContentsOf words.now contents },
 }
 
-// Entries go by groups of kinds: 4 and 5, the steps, are one, and each other kind is one of its own. 0 is no kind.
-pub fn group(kind: u32) -> u32
-    ensures { (result ≡ contents.group kind) × (result < 5) }
-{
-    match kind {
-        1 => 1,
-        2 => 2,
-        3 => 3,
-        4 => 4,
-        5 => 4,
-        _ => 0,
+// What a body of a book is.
+#[derive(Clone, Copy, PartialEq, Eq)]
+pub enum Kind {
+    Table,
+    Counter,
+    Rule,
+    Batch,
+    Prediction,
+}
+
+// Entries go by groups of kinds, in this order: batches and predictions, the steps, are one, and each other kind is one of its own.
+#[derive(Clone, Copy, PartialEq, Eq, PartialOrd)]
+pub enum KindGroup {
+    Tables = 1,
+    Counters = 2,
+    Rules = 3,
+    Steps = 4,
+}
+
+impl Kind {
+    // The kind of a number, from 1 on.
+    pub fn of(number: u32) -> Option<Kind>
+        ensures { result ≡ kind_by number }
+    {
+        match number {
+            1 => Some(Kind::Table),
+            2 => Some(Kind::Counter),
+            3 => Some(Kind::Rule),
+            4 => Some(Kind::Batch),
+            5 => Some(Kind::Prediction),
+            _ => None,
+        }
+    }
+
+    pub fn group(self) -> KindGroup
+        ensures { result ≡ group_by self }
+    {
+        match self {
+            Kind::Table => KindGroup::Tables,
+            Kind::Counter => KindGroup::Counters,
+            Kind::Rule => KindGroup::Rules,
+            Kind::Batch | Kind::Prediction => KindGroup::Steps,
+        }
     }
 }
 
-// How many entries of a group a book may have.
-fn most(g: u32) -> u32
-    ensures { result ≡ contents.most g }
-{
-    match g {
-        1 => 16,
-        2 => 16,
-        3 => 32,
-        4 => 64,
-        _ => 0,
+impl KindGroup {
+    // Its number, from 1 on.
+    fn number(self) -> usize
+        ensures { (result ≡ group_number self) × (result < 5) }
+    {
+        self as usize
     }
+
+    // How many entries of the group a book may have.
+    fn most(self) -> u32
+        ensures { result ≡ contents.most (group_number self) }
+    {
+        match self {
+            KindGroup::Tables | KindGroup::Counters => 16,
+            KindGroup::Rules => 32,
+            KindGroup::Steps => 64,
+        }
+    }
+}
+
+// The group of a kind's number.
+pub fn group(kind: u32) -> Option<KindGroup>
+    ensures { number_of result ≡ contents.group kind }
+{
+    Some(Kind::of(kind)?.group())
 }
 
 // Whether an entry of group g may stand after one of group `last`, as the `seen`-th of its group, with its body at `first` where the body before it ended at `end`.
-fn fits(last: u32, g: u32, seen: u32, first: usize, end: usize) -> bool
-    ensures { result ≡ (leb last g && ltb 0 g && leb seen (contents.most g) && eqb first end) }
+fn fits(last: KindGroup, g: KindGroup, seen: u32, first: usize, end: usize) -> bool
+    ensures { result ≡ (leb (group_number last) (group_number g) && leb seen (contents.most (group_number g)) && eqb first end) }
 {
-    last <= g && 0 < g && seen <= most(g) && first == end
+    last <= g && seen <= g.most() && first == end
 }
 
 // The kind of entry i.
@@ -125,15 +172,23 @@ pub fn end_of(words: &[u32], i: usize) -> usize
     first_of(words, i) + words::size_at(words, 3 + 3 * i)
 }
 
+// The kind of body i, if its number is one.
+pub fn body_kind(words: &[u32], i: usize) -> Option<Kind>
+    requires { i < 65536 }
+    ensures { result ≡ kind_by (contents.kind_of words.now i) }
+{
+    Kind::of(kind_of(words, i))
+}
+
 // How many of the first n entries are of group g.
 #[tactic(auto, using(model::specs::Laws::Contents::members_le), unfolding(model::specs::Book::Contents::members))]
-fn members(words: &[u32], n: usize, g: u32) -> u32
+fn members(words: &[u32], n: usize, g: KindGroup) -> u32
     requires { n ≤ 128 }
-    ensures { result ≡ contents.members words.now g n }
+    ensures { result ≡ contents.members words.now (group_number g) n }
 {
     let mut c = 0;
     for i in 0..n {
-        if group(kind_of(words, i)) == g {
+        if group(kind_of(words, i)) == Some(g) {
             c += 1;
         }
     }
@@ -147,10 +202,10 @@ pub fn of(words: &[u32]) -> Contents
 {
     let n = words::size_at(words, 0);
     Contents {
-        tables: members(words, n, 1),
-        counters: members(words, n, 2),
-        rules: members(words, n, 3),
-        steps: members(words, n, 4),
+        tables: members(words, n, KindGroup::Tables),
+        counters: members(words, n, KindGroup::Counters),
+        rules: members(words, n, KindGroup::Rules),
+        steps: members(words, n, KindGroup::Steps),
     }
 }
 
@@ -179,11 +234,11 @@ pub fn check(words: &[u32]) -> Result<(), Refusal>
         return Err(Refusal::Contents(0));
     }
     let mut counts = [0; 5];
-    let mut last = 1;
+    let mut last = KindGroup::Tables;
     let mut end = 1 + 3 * n;
     for i in 0..n {
-        let g = group(kind_of(words, i));
-        let k = g as usize;
+        let g = group(kind_of(words, i)).ok_or(Refusal::Contents(i))?;
+        let k = g.number();
         counts[k] += 1;
         if !fits(last, g, counts[k], first_of(words, i), end) {
             return Err(Refusal::Contents(i));

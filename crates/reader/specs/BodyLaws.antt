@@ -1,10 +1,12 @@
 -- What the code of the bodies leans on: a body's end, a table that is refused at once, and a kind that is none.
-use Rattle.std.specs.Prelude.{ℕ, zero, suc, ◌+◌, ◌<◌, ◌≡◌, Bool, List, [], ◌∷◌, eqb, leb, ltb}
+use Rattle.std.specs.Prelude.{ℕ, zero, suc, ◌+◌, ◌<◌, ◌≡◌, Bool, List, [], ◌∷◌, eqb, leb, ltb, None}
 use Rattle.std.proofs.Math.Path.{refl, ap}
 use Rattle.std.proofs.Common.{sym, arith, add-zero, le-ltb, leb-true}
 use Rattle.std.proofs.Math.Bool.{true, false}
 use Rattle.std.proofs.lemmas.Bool.{lt-leb}
 use Rattle.std.proofs.Math.ListN.{get_or, get_or-eq_default}
+use Rattle.contents.specs.Kinds.{kind_by}
+use Rattle.contents.specs.KindLaws.{no_kind}
 use Rattle.model.specs.Book.Scan.{Scan, bad, good, ◌▹◌, fine, three, up_to, require, Sizes, step, finish, left, word, scan_table, scan_counter, scan_rule, scan_batch, scan_prediction, scan}
 
 module _ (end : ℕ) where
@@ -60,3 +62,7 @@ pub scan_rest : (end : ℕ) (w : List ℕ) (z : Sizes) (kind at : ℕ) → (0 < 
 unfolding scan
 scan_rest end w z zero at h = refl
 scan_rest end w z (suc k) at h = ap (λ (f : ℕ → Scan). f at) (get_or-eq_default (scan_table end w z ∷ scan_counter end w z ∷ scan_rule end w z ∷ scan_batch end w z ∷ scan_prediction end w z ∷ []) (λ (at : ℕ). bad) {n = k} (omega (arith, h (omega arith))))
+
+-- what is of no kind is bad
+pub scan_none : (end : ℕ) (w : List ℕ) (z : Sizes) (kind at : ℕ) → kind_by kind ≡ None → scan end w z kind at ≡ bad
+scan_none end w z kind at e = scan_rest end w z kind at (λ l. no_kind kind e l)

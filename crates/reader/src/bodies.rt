@@ -2,11 +2,12 @@
 ghost use Rattle.std.specs.Prelude.{◌≡◌, ◌<◌};
 ghost use Rattle.model.specs.Book.Read as read;
 ghost use Rattle.model.specs.Book.Scan as spec;
+ghost use Rattle.contents.specs.Kinds.{kind_number};
 ghost use Rattle.reader.specs.Values.{scan_of, walk_of, sizes_of};
 
 use crate::scan;
 use crate::scan::{Body, Test, Walk};
-use contents::Contents;
+use contents::{Contents, Kind};
 
 impl<'a> Body<'a> {
     // The body ends here.
@@ -108,27 +109,28 @@ impl<'a> Body<'a> {
     }
 
     // A body by its kind.
-    #[tactic(auto, using(crate::specs::BodyLaws::scan_rest), unfolding(model::specs::Book::Scan::scan))]
-    fn by_kind(self, kind: u32) -> Option<Walk>
-        ensures { scan_of result ≡ spec.scan self.entry.end self.entry.words.now (sizes_of self.entry.sizes) kind self.entry.first }
+    #[tactic(auto, unfolding(model::specs::Book::Scan::scan))]
+    fn by_kind(self, kind: Kind) -> Option<Walk>
+        ensures { scan_of result ≡ spec.scan self.entry.end self.entry.words.now (sizes_of self.entry.sizes)
+            (kind_number kind) self.entry.first }
     {
         match kind {
-            1 => self.table(),
-            2 => self.counter(),
-            3 => self.rule(),
-            4 => self.batch(),
-            5 => self.prediction(),
-            _ => None,
+            Kind::Table => self.table(),
+            Kind::Counter => self.counter(),
+            Kind::Rule => self.rule(),
+            Kind::Batch => self.batch(),
+            Kind::Prediction => self.prediction(),
         }
     }
 }
 
-// The walk over body i.
+// The walk over body i. One of no kind draws 3.
+#[tactic(auto, using(contents::specs::KindLaws::number_of_kind, crate::specs::BodyLaws::scan_none))]
 pub fn past_body(words: &[u32], sizes: Contents, i: usize) -> Option<Walk>
     requires { (i < 128) × (sizes_of sizes ≡ read.sizes words.now) }
     ensures { scan_of result ≡ read.walk words.now i }
 {
-    let kind = contents::kind_of(words, i);
+    let kind = contents::body_kind(words, i)?;
     let first = contents::first_of(words, i);
     let end = contents::end_of(words, i);
     Body {

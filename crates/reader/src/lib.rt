@@ -14,11 +14,11 @@ mod instructions;
 mod rows;
 mod scan;
 
-use contents::Contents;
+use contents::{Contents, Kind};
 use refusal::Refusal;
 
 // Refusals 3, 6, 4 and 5 of body i.
-#[tactic(auto, using(crate::specs::ReadLaws::body_bad, crate::specs::ReadLaws::body_six, crate::specs::ReadLaws::body_four, crate::specs::ReadLaws::body_pass, crate::specs::ReadLaws::table_at_lem))]
+#[tactic(auto, using(contents::specs::KindLaws::is_table, crate::specs::ReadLaws::body_bad, crate::specs::ReadLaws::body_six, crate::specs::ReadLaws::body_four, crate::specs::ReadLaws::body_pass, crate::specs::ReadLaws::table_at_lem))]
 fn body(words: &[u32], sizes: Contents, i: usize) -> Result<(), Refusal>
     requires { BodyAt words.now (sizes_of sizes) i }
     ensures { refusal_of result ≡ body_refusal words.now i }
@@ -32,7 +32,7 @@ fn body(words: &[u32], sizes: Contents, i: usize) -> Result<(), Refusal>
     if walk.stale != 0 {
         return Err(Refusal::Stale(walk.stale));
     }
-    if contents::kind_of(words, i) == 1 {
+    if contents::body_kind(words, i) == Some(Kind::Table) {
         rows::repeated(words, contents::first_of(words, i))
     } else {
         Ok(())

@@ -1,17 +1,24 @@
-use mathlib.Core.Path.{sym, ◌∙◌}
+use mathlib.Core.Path.{◌≡◌}
+use borrow.Author.Rules.{rules}
 use native.Mathlib.Omega.{arith}
+use Rattle.std.specs.Prelude.{Some}
+use Rattle.model.specs.Book.Contents.{kind_of}
+use Rattle.contents.specs.declared.Kind.TheVariants.{Table}
+use Rattle.contents.specs.Kinds.{kind_by}
+use Rattle.contents.specs.KindLaws.{is_table}
 use Rattle.reader.specs.ReadLaws.{few, body_rows}
 use Rattle.reader.proofs.body.Goals as goal
 
 pub past_body-requires : goal.past_body-requires
 past_body-requires c = (few c.requires, c.requires.is_sizes)
 
-pub kind_of-requires : goal.kind_of-requires
-kind_of-requires c = omega (arith, few c.requires)
+pub body_kind-requires : goal.body_kind-requires
+body_kind-requires c = omega (arith, few c.requires)
 
 pub first_of-requires : goal.first_of-requires
 first_of-requires c = omega (arith, few c.requires)
 
-pub returns-then-kind_of-eq1 : goal.returns-then-kind_of-eq1
-returns-then-kind_of-eq1 c =
-    body_rows c.requires c.in-Some.ensures _ c.if-walk-ne0.false c.if-walk-ne0-2.false (sym c.kind_of.ensures ∙ c.if-kind_of-eq1.true) (rw c.first_of.ensures.0 at c.repeated.ensures)
+pub returns-then-eq : goal.returns-then-eq
+returns-then-eq c =
+    let e : kind_by (kind_of c.args.words.now c.args.i) ≡ Some Table = search rules in
+    body_rows c.requires c.in-Some.ensures _ c.if-walk-ne0.false c.if-walk-ne0-2.false (is_table _ e) (rw c.first_of.ensures.0 at c.repeated.ensures)
