@@ -8,20 +8,22 @@ ghost use Rattle.instr.specs.Meaning.{instr_of};
 ghost use Rattle.refusal.specs.Refusal.{refusal_of};
 ghost use Rattle.rules.specs.Rules.{placed_at};
 ghost use Rattle.bound_vars.specs.Bound.{has, binding};
-ghost use Rattle.model.specs.Laws.Book.{Readable};
 ghost use Rattle.instr.specs.Stands.{Stands, binds_of, IsVariable};
 
 use crate::{lists, shapes};
 use bound_vars::Bound;
+use contents::Book;
 use instr::Instr;
 use refusal::Refusal;
 
 // Refusal 8 is not drawn: its lists are as long as its table and functions ask.
 #[tactic(auto, using(model::specs::Laws::Book::few_tables, model::specs::Laws::Book::table_keys, model::specs::Laws::Book::table_width, crate::specs::TestLaws::count_entries, crate::specs::TestLaws::count_writes), unfolding(instr::specs::Meaning::instr_of, model::specs::Check::sizes_of))]
-fn sizes_fit(words: &[u32], i: Instr) -> bool
-    requires { Readable words.now × Stands words.now i }
-    ensures { result ≡ all check.fits? (check.sizes_of (tables words.now) functions.arity (instr_of words.now i)) }
+fn sizes_fit(book: Book, i: Instr) -> bool
+    requires { Stands book.words.now i }
+    ensures { result ≡ all check.fits?
+        (check.sizes_of (tables book.entry.words.now) functions.arity (instr_of book.entry.words.now i)) }
 {
+    let words = book.words;
     match i {
         Instr::LookupOrInsertDefault {
             table,
@@ -133,11 +135,12 @@ fn held_free(words: &[u32], i: Instr) -> bool
 
 // Refusal 9 is not drawn: its column and its current values lie in the row.
 #[tactic(auto, using(model::specs::Laws::Book::few_tables, model::specs::Laws::Book::table_keys, model::specs::Laws::Book::table_width), unfolding(instr::specs::Meaning::instr_of, model::specs::Check::columns_of))]
-fn columns_fit(words: &[u32], i: Instr) -> bool
-    requires { Readable words.now × Stands words.now i }
+fn columns_fit(book: Book, i: Instr) -> bool
+    requires { Stands book.words.now i }
     ensures { result ≡ all check.below?
-        (check.columns_of (tables words.now) functions.arity (instr_of words.now i)) }
+        (check.columns_of (tables book.entry.words.now) functions.arity (instr_of book.entry.words.now i)) }
 {
+    let words = book.words;
     match i {
         Instr::LookupOrInsertDefault {
             table,
@@ -169,22 +172,22 @@ fn columns_fit(words: &[u32], i: Instr) -> bool
 
 // What an instruction draws, whose opcode stands at p: the first of 8, 7, 10 and 9 whose test fails.
 #[tactic(auto, unfolding(model::specs::Check::check_instr))]
-pub fn check_instr(words: &[u32], p: usize, i: Instr, bound: Bound) -> Result<(), Refusal>
-    requires { Readable words.now × Stands words.now i }
+pub fn check_instr(book: Book, p: usize, i: Instr, bound: Bound) -> Result<(), Refusal>
+    requires { Stands book.words.now i }
     ensures { refusal_of result ≡ placed_at p
-        (check.check_instr (tables words.now) functions.arity (has bound)
-        (instr_of words.now i)) }
+        (check.check_instr (tables book.entry.words.now) functions.arity (has bound)
+        (instr_of book.entry.words.now i)) }
 {
-    if !sizes_fit(words, i) {
+    if !sizes_fit(book, i) {
         return Err(Refusal::Size(p));
     }
-    if !reads_known(words, i, bound) {
+    if !reads_known(book.words, i, bound) {
         return Err(Refusal::Unbound(p));
     }
-    if !held_free(words, i) {
+    if !held_free(book.words, i) {
         return Err(Refusal::HeldOut(p));
     }
-    if !columns_fit(words, i) {
+    if !columns_fit(book, i) {
         return Err(Refusal::Column(p));
     }
     Ok(())

@@ -8,7 +8,6 @@ ghost use Rattle.model.specs.Book.Read as read;
 ghost use Rattle.model.specs.Outcome as outcome;
 ghost use Rattle.refusal.specs.Refusal.{refusal_of};
 ghost use Rattle.model.specs.Laws.Book.{Readable};
-ghost use Rattle.contents.specs.Contents.{ContentsOf};
 
 mod fit;
 mod instructions;
@@ -16,22 +15,23 @@ mod lists;
 mod shapes;
 
 use bound_vars::Bound;
-use contents::{Book, Contents};
+use contents::Book;
 use refusal::Refusal;
 
 // The first of these refusals that rule r draws.
-pub fn check_rule(words: &[u32], contents: Contents, r: usize) -> Result<(), Refusal>
-    requires { Readable words.now × ContentsOf words.now contents × (r < rule_count words.now) }
-    ensures { refusal_of result ≡ outcome.rule_refusal words.now r }
+pub fn check_rule(book: Book, r: usize) -> Result<(), Refusal>
+    requires { r < rule_count book.words.now }
+    ensures { refusal_of result ≡ outcome.rule_refusal book.entry.words.now r }
 {
-    let first = contents::first_of(words, contents.first_rule() + r);
+    let words = book.words;
+    let first = contents::first_of(words, book.contents.first_rule() + r);
     let starts = words::size_at(words, first);
     let n = words::size_at(words, first + 1);
     let mut bound = Bound::first(starts);
     let mut p = first + 2;
     for _ in 0..n {
         let i = instr::instr_at(words, p);
-        instructions::check_instr(words, p, i, bound)?;
+        instructions::check_instr(book, p, i, bound)?;
         bound = instructions::bind_dst(i, bound);
         p = instr::next(words, p);
     }
@@ -40,12 +40,11 @@ pub fn check_rule(words: &[u32], contents: Contents, r: usize) -> Result<(), Ref
 
 // The first of these refusals that the rules draw.
 #[tactic(auto, using(crate::specs::RuleLaws::rules_stop, crate::specs::RuleLaws::rules_end))]
-pub fn check_rules(words: &[u32], contents: Contents) -> Result<(), Refusal>
-    requires { Readable words.now × ContentsOf words.now contents }
-    ensures { refusal_of result ≡ outcome.rules_refusal words.now }
+pub fn check_rules(book: Book) -> Result<(), Refusal>
+    ensures { refusal_of result ≡ outcome.rules_refusal book.entry.words.now }
 {
-    for r in 0..contents.rule_count() {
-        check_rule(words, contents, r)?;
+    for r in 0..book.contents.rule_count() {
+        check_rule(book, r)?;
     }
     Ok(())
 }
@@ -56,7 +55,7 @@ pub fn fit_steps(book: Book) -> Result<(), Refusal>
     ensures { refusal_of result ≡ read.steps_refusal book.entry.words.now }
 {
     for k in 0..book.contents.step_count() {
-        if !fit::step_fits(book.words, book.contents, k) {
+        if !fit::step_fits(book, k) {
             return Err(Refusal::Unfit(book.contents.first_step() + k));
         }
     }
@@ -69,9 +68,9 @@ pub fn check_book(words: &[u32]) -> Result<(), Refusal>
     requires { Readable words.now }
     ensures { refusal_of result ≡ (outcome.rules_refusal words.now else λ _. read.steps_refusal words.now) }
 {
-    let contents = contents::of(words);
-    check_rules(words, contents)?;
-    fit_steps(Book::of(words))
+    let book = Book::of(words);
+    check_rules(book)?;
+    fit_steps(book)
 }
 
 // The first of refusals 2 to 11 of a book's words.

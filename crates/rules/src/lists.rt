@@ -24,7 +24,7 @@ fn free(e: QueryEntry, dst: Variable) -> bool
     ensures { result ≡ check.free? (dst.0, entry_of e) }
 {
     match e {
-        QueryEntry::Var(v) => v.0 != dst.0,
+        QueryEntry::Var(v) => v != dst,
         QueryEntry::Const(_) => true,
     }
 }

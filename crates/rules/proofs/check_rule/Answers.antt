@@ -20,41 +20,36 @@ use Rattle.rules.proofs.check_rule.Goals as goal
 use Rattle.rules.proofs.check_rule.Goals.{After-instr_at-i}
 
 -- what is known of the instruction, from where it is read on
-here : (c : After-instr_at-i) → At c.args.words.now c.args.r c.loop.counter c.loop.p c.instr_at-i.result
+here : (c : After-instr_at-i) → At c.args.book.words.now c.args.r c.loop.counter c.loop.p c.instr_at-i.result
 here c =
     let l = c.loop in
-    let q = c.requires in
-    record { readable = q.0; rule = q.2; below = omega (arith, l.invariant.0); place = l.invariant.1; is = c.instr_at-i.ensures }
+    record { readable = c.args.book.readable; rule = c.requires; below = omega (arith, l.invariant.0); place = l.invariant.1; is = c.instr_at-i.ensures }
 
 pub overflow_add-first_rule : goal.overflow_add-first_rule
 overflow_add-first_rule c =
-    let q = c.requires in
-    omega (arith, first_rule_is q.1 c.first_rule.ensures, rule_entry c.args.words.now q.0 c.args.r q.2)
+    omega (arith, first_rule_is c.args.book.contained c.first_rule.ensures, rule_entry c.args.book.words.now c.args.book.readable c.args.r c.requires)
 
 pub first_of-first-requires : goal.first_of-first-requires
 first_of-first-requires c =
-    let q = c.requires in
-    omega (arith, first_rule_is q.1 c.first_rule.ensures, rule_entry c.args.words.now q.0 c.args.r q.2)
+    omega (arith, first_rule_is c.args.book.contained c.first_rule.ensures, rule_entry c.args.book.words.now c.args.book.readable c.args.r c.requires)
 
 pub loop-init : goal.loop-init
 loop-init c =
     let first = c.first_of-first in
     let a = c.args in
-    let q = c.requires in
-    let w = a.words.now in
-    let f : first.result ≡ rule_first w a.r = first.ensures.0 ∙ ap (λ (b : ℕ). first_of w (b + a.r)) (first_rule_is q.1 c.first_rule.ensures) in
-    (c.size_at-n.ensures.0 ∙ ap (λ (x : ℕ). get_or w (x + 1) 0) f, ap (λ (x : ℕ). x + 2) f, rw (c.first-bound.ensures, c.size_at-starts.ensures.0, f) (bound_start w a.r q.0 q.2), rw c.first-bound.ensures (length_first _), λ k m. absurd (omega arith))
+    let w = a.book.words.now in
+    let f : first.result ≡ rule_first w a.r = first.ensures.0 ∙ ap (λ (b : ℕ). first_of w (b + a.r)) (first_rule_is c.args.book.contained c.first_rule.ensures) in
+    (c.size_at-n.ensures.0 ∙ ap (λ (x : ℕ). get_or w (x + 1) 0) f, ap (λ (x : ℕ). x + 2) f, rw (c.first-bound.ensures, c.size_at-starts.ensures.0, f) (bound_start w a.r a.book.readable c.requires), rw c.first-bound.ensures (length_first _), λ k m. absurd (omega arith))
 
 pub instr_at-i-requires : goal.instr_at-i-requires
 instr_at-i-requires c =
     let a = c.args in
     let l = c.loop in
-    let q = c.requires in
-    let x : At a.words.now a.r l.counter l.p (instr_at a.words.now l.p) = record { readable = q.0; rule = q.2; below = omega (arith, l.invariant.0); place = l.invariant.1; is = refl } in
+    let x : At a.book.words.now a.r l.counter l.p (instr_at a.book.words.now l.p) = record { readable = c.args.book.readable; rule = c.requires; below = omega (arith, l.invariant.0); place = l.invariant.1; is = refl } in
     small_here x
 
 pub check_instr-requires : goal.check_instr-requires
-check_instr-requires c = (c.requires.0, stands_here (here (goal.at.check_instr-requires c).After-instr_at-i))
+check_instr-requires c = stands_here (here (goal.at.check_instr-requires c).After-instr_at-i)
 
 pub returns-in_err-check_instr : goal.returns-in_err-check_instr
 returns-in_err-check_instr c =
@@ -63,7 +58,7 @@ returns-in_err-check_instr c =
     handed_on _ _ c.from_residual.ensures.1 ∙ rule_stop x l.bound l.invariant.2 {A = Unit {0}} (Err c.in_err-check_instr.field-0.0) c.in_err-check_instr.ensures refl l.invariant.4
 
 pub bind_dst-bound-requires : goal.bind_dst-bound-requires
-bind_dst-bound-requires c = binds_variable c.args.words.now c.instr_at-i.result (stands_here (here (goal.at.bind_dst-bound-requires c).After-instr_at-i))
+bind_dst-bound-requires c = binds_variable c.args.book.words.now c.instr_at-i.result (stands_here (here (goal.at.bind_dst-bound-requires c).After-instr_at-i))
 
 pub next-p-requires : goal.next-p-requires
 next-p-requires c = small_here (here (goal.at.next-p-requires c).After-instr_at-i)
@@ -83,5 +78,5 @@ pub returns : goal.returns
 returns c =
     let a = c.args in
     let l = c.loop in
-    let e : l.counter ≡ many a.words.now a.r = omega (arith, l.invariant.0) in
-    rule_end a.words.now a.r (rw e at l.invariant.4)
+    let e : l.counter ≡ many a.book.words.now a.r = omega (arith, l.invariant.0) in
+    rule_end a.book.words.now a.r (rw e at l.invariant.4)

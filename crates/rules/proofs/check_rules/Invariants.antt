@@ -5,4 +5,4 @@ use Rattle.model.specs.Outcome.{rule_refusal}
 use Rattle.rules.proofs.check_rules.Given as goal
 
 abbrev pub invariant-loop-r : goal.invariant-loop-r
-invariant-loop-r l = (k : ℕ) → k < l.r → rule_refusal l.words k ≡ None
+invariant-loop-r l = (k : ℕ) → k < l.r → rule_refusal l.book.words.now k ≡ None
