@@ -9,10 +9,9 @@ use Rattle.model.specs.Laws.Bodies.{length_part}
 use Rattle.model.specs.Laws.Contents.{contents_ok, all_entries}
 use Rattle.model.specs.Laws.Book.{Readable, few_entries, few_tables, few_counters, few_steps}
 use Rattle.answer.specs.declared.entries.Shape.{Shape}
-use Rattle.answer.specs.declared.entries.Entry.{Entry}
 use Rattle.answer.specs.Sums.{sum, sum_none, sum_suc, sum_agree, sum_fits}
 use Rattle.step_bodies.specs.Runs.{runs, runs_none, length_suc, sets_append}
-use Rattle.answer.specs.Layout.{rows_length, table_words, Results, bodies, shape_of, body_count, entry_at, entry_words, Small, entry, whole_length, answered, Enough}
+use Rattle.answer.specs.Layout.{Entry, rows_length, table_words, Results, bodies, shape_of, body_count, entry_at, entry_words, Small, entry, whole_length, answered, Enough}
 use Rattle.answer.specs.LayoutLaws.{at_table, counters_sum, steps_sum, all_sum, length_entries}
 use Rattle.answer.specs.BodyLaws.{Fits, words_are, layout_is}
 

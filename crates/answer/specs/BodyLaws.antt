@@ -15,10 +15,9 @@ use Rattle.model.specs.Laws.Bodies.{length_part}
 use Rattle.model.specs.Laws.Logic.{either}
 use Rattle.model.specs.Laws.Lists.{length_tab, get_or_tab}
 use Rattle.answer.specs.declared.entries.Shape.{Shape}
-use Rattle.answer.specs.declared.entries.Entry.{Entry}
 use Rattle.answer.specs.Sums.{sum, sum_none, sum_suc, sum_fits}
 use Rattle.step_bodies.specs.Runs.{runs, runs_none, runs_suc, join_append}
-use Rattle.answer.specs.Layout.{rows_length, Results, table_of, counter_of, length_of, step_of, log_of, bodies, shape_of, body_count, entry_words, entry, whole_length}
+use Rattle.answer.specs.Layout.{Entry, rows_length, Results, table_of, counter_of, length_of, step_of, log_of, bodies, shape_of, body_count, entry_words, entry, whole_length}
 use Rattle.answer.specs.LayoutLaws.{at_table, at_counter, at_step, at_log, length_entries}
 
 -- ## The words of bodies, and their contents

@@ -10,7 +10,9 @@ use Rattle.execution.specs.declared.ExecutionState.{ExecutionState}
 use Rattle.refusal.specs.declared.Refusal.{Refusal}
 use Rattle.refusal.specs.declared.Refusal.TheVariants.{AnswerFull}
 use Rattle.answer.specs.declared.entries.Shape.{Shape}
-use Rattle.answer.specs.declared.entries.Entry.{Entry}
+use Rattle.answer.specs.declared.entries.BodyKind.{BodyKind}
+use Rattle.answer.specs.declared.entries.BodyKind.TheVariants.{Table, Counter, Batch, Prediction, Log}
+use Rattle.answer.specs.declared.entries.Entry as code
 use Rattle.answer.specs.Sums.{sum}
 use Rattle.step_bodies.specs.Runs.{runs}
 
@@ -68,6 +70,22 @@ shape_of w = record { tables = table_count w; counters = counter_count w; steps 
 
 abbrev pub body_count : Shape → ℕ
 body_count z = z.tables + z.counters + z.steps + 1
+
+-- a body's kind, and how many words it has
+pub record Entry : Type 0 where
+  pub kind : ℕ
+  pub length : ℕ
+
+-- what the code has for it
+abbrev pub kind_number : BodyKind → ℕ
+kind_number Table = 1
+kind_number Counter = 2
+kind_number Batch = 6
+kind_number Prediction = 7
+kind_number Log = 8
+
+abbrev pub as_entry : code.Entry → Entry
+as_entry e = record { kind = kind_number e.kind; length = e.length }
 
 -- the kind and the length of body i, where the log has `used` words
 unfoldable pub entry_at : (w counts lengths : List ℕ) (used : ℕ) (z : Shape) (i : ℕ) → Entry

@@ -5,10 +5,9 @@ use Rattle.std.proofs.Math.Nat.{add-sub_cancel_left}
 use borrow.Author.Tests.{lt-ltb, le-ltb}
 use Rattle.model.specs.Book.Contents.{kind_of}
 use Rattle.answer.specs.declared.entries.Shape.{Shape}
-use Rattle.answer.specs.declared.entries.Entry.{Entry}
 use Rattle.answer.specs.Sums.{sum, sum_suc, sum_agree, sum_le, sum_fits, sum_split, sum_const, sum_more}
 use Rattle.step_bodies.specs.Runs.{runs, runs_none, length_suc}
-use Rattle.answer.specs.Layout.{step_kind, rows_length, body_count, entry_at, entry_words, Small}
+use Rattle.answer.specs.Layout.{Entry, step_kind, rows_length, body_count, entry_at, entry_words, Small}
 
 module _ (w counts lengths : List ℕ) (used : ℕ) (z : Shape) where
   abbrev e : ℕ → Entry

@@ -2,8 +2,10 @@
 ghost use Rattle.std.specs.Prelude.{◌≡◌, ◌+◌, ◌*◌, ◌^◌, ◌<◌, ◌≤◌, length};
 ghost use Rattle.std.proofs.lemmas.List.Edits.{sets};
 ghost use Rattle.model.specs.Book.Contents as book;
-ghost use Rattle.answer.specs.Layout.{step_kind, rows_length, shape_of, Small, body_count, entry_at, entry_words, bodies_length, entries_words};
+ghost use Rattle.model.specs.Book.Contents.{kind_of};
+ghost use Rattle.answer.specs.Layout.{step_kind, kind_number, as_entry, rows_length, shape_of, Small, body_count, entry_at, entry_words, bodies_length, entries_words};
 
+use contents::Kind;
 use ids::TableId;
 
 // How many tables, counters and steps there are, and the book's entry of the first step.
@@ -26,10 +28,34 @@ pub struct Sizes<'a> {
     ghost small: { Small words.now counts.now lengths.now used shape },
 }
 
+// What a body of the answer is.
+#[derive(Clone, Copy)]
+pub enum BodyKind {
+    Table,
+    Counter,
+    Batch,
+    Prediction,
+    Log,
+}
+
+impl From<BodyKind> for u32 {
+    ghost from_gives = { λ kind number. number ≡ kind_number kind };
+
+    fn from(kind: BodyKind) -> u32 {
+        match kind {
+            BodyKind::Table => 1,
+            BodyKind::Counter => 2,
+            BodyKind::Batch => 6,
+            BodyKind::Prediction => 7,
+            BodyKind::Log => 8,
+        }
+    }
+}
+
 // A body's kind, and how many words it has.
 #[derive(Clone, Copy)]
 pub struct Entry {
-    pub kind: u32,
+    pub kind: BodyKind,
     pub length: usize,
 }
 
@@ -57,19 +83,12 @@ pub fn rows_length(words: &[u32], counts: &[u32], table: TableId) -> usize
     n * info.width
 }
 
-// 6 for a batch, 7 for a prediction.
-fn step_kind(kind: u32) -> u32
-    ensures { result ≡ step_kind kind }
-{
-    if kind == 4 { 6 } else { 7 }
-}
-
 // The three words of an entry, at the word `at`.
 fn write_entry(e: Entry, first: usize, at: usize, answer: &mut [u32])
     requires { (e.length < 2 ^ 32) × (first < 2 ^ 32) × (at + 3 ≤ length answer.old) }
-    ensures { answer.new ≡ sets answer.old at (entry_words e first) }
+    ensures { answer.new ≡ sets answer.old at (entry_words (as_entry e) first) }
 {
-    answer[at] = e.kind;
+    answer[at] = u32::from(e.kind);
     answer[at + 1] = first as u32;
     answer[at + 2] = e.length as u32;
 }
@@ -82,9 +101,22 @@ impl<'a> Sizes<'a> {
         self.shape.tables + self.shape.counters + self.shape.steps + 1
     }
 
+    // The kind of step k's body.
+    fn step_kind(self, k: usize) -> BodyKind
+        requires { k < self.shape.steps }
+        ensures { kind_number result ≡ step_kind (kind_of self.entry.words.now (self.entry.shape.first + k)) }
+    {
+        if contents::body_kind(self.words, self.shape.first + k) == Some(Kind::Batch) {
+            BodyKind::Batch
+        } else {
+            BodyKind::Prediction
+        }
+    }
+
     // Body i: tables, counters, steps, then the log.
+    #[tactic(auto, unfolding(crate::specs::Layout::entry_at))]
     fn entry_at(self, i: usize) -> Entry
-        ensures { result ≡ entry_at self.entry.words.now self.entry.counts.now self.entry.lengths.now
+        ensures { as_entry result ≡ entry_at self.entry.words.now self.entry.counts.now self.entry.lengths.now
             self.entry.used self.entry.shape i }
     {
         let counters = self.shape.tables;
@@ -93,21 +125,24 @@ impl<'a> Sizes<'a> {
         if i < counters {
             let n = rows_length(self.words, self.counts, TableId(i as u32));
             return Entry {
-                kind: 1,
+                kind: BodyKind::Table,
                 length: 4 + n,
             };
         }
         if i < steps {
-            return Entry { kind: 2, length: 1 };
+            return Entry {
+                kind: BodyKind::Counter,
+                length: 1,
+            };
         }
         if i < log {
             let k = i - steps;
-            let kind = step_kind(contents::kind_of(self.words, self.shape.first + k));
+            let kind = self.step_kind(k);
             let length = words::size_at(self.lengths, k);
             return Entry { kind, length };
         }
         Entry {
-            kind: 8,
+            kind: BodyKind::Log,
             length: 1 + self.used,
         }
     }

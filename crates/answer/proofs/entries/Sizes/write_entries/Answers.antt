@@ -1,9 +1,9 @@
 -- After i turns i entries stand from word 1 on (`put_more`), 3 words each (`length_entries`), and `first` is the next body's word; at the end i is n.
 use Rattle.answer.specs.LayoutLaws.{small_entry, length_entries}
-use Rattle.answer.specs.Layout.{entry_at, entry_words}
+use Rattle.answer.specs.Layout.{Entry, entry_at, entry_words}
 use Rattle.step_bodies.specs.Runs.{put_none, put_more}
 use Rattle.answer.specs.Sums.{sum, sum_none, sum_turn}
-use Rattle.answer.specs.declared.entries.Entry.{Entry}
+use lib.Seq.{sets}
 use native.Mathlib.Omega.{arith}
 use mathlib.Core.List.{List}
 use mathlib.Core.Path.{ap, ◌∙◌, refl}
@@ -42,4 +42,4 @@ loop-i-preserved c =
     let r = c.entry_at-e.ensures in
     let f : ℕ → ℕ = λ (j : ℕ). (entry_at s.words.now s.counts.now s.lengths.now s.used s.shape j).length in
     let g : ℕ → List ℕ = λ (j : ℕ). entry_words (entry_at s.words.now s.counts.now s.lengths.now s.used s.shape j) (a.start + sum f j) in
-    (omega (arith, sum_turn f l.i (sum f l.i) _ refl refl, l.invariant.0, ap (λ (x : Entry). x.length) r), put_more g 1 l.i a.answer.now l.answer _ (1 + 3 * l.i) l.invariant.1 (omega (arith, length_entries (entry_at s.words.now s.counts.now s.lengths.now s.used s.shape) (λ j. a.start + sum f j) l.i)) (write-entry.ensures ∙ rw (r, l.invariant.0)))
+    (omega (arith, sum_turn f l.i (sum f l.i) _ refl refl, l.invariant.0, ap (λ (x : Entry). x.length) r), put_more g 1 l.i a.answer.now l.answer _ (1 + 3 * l.i) l.invariant.1 (omega (arith, length_entries (entry_at s.words.now s.counts.now s.lengths.now s.used s.shape) (λ j. a.start + sum f j) l.i)) (write-entry.ensures ∙ ap (λ (x : Entry). sets l.answer (1 + 3 * l.i) (entry_words x l.first)) r ∙ rw l.invariant.0))
