@@ -68,6 +68,20 @@ pub struct Book<'a> {
     ghost contained: { ContentsOf words.now contents },
 }
 
+impl<'a> Book<'a> {
+    // The book of words that can be read.
+    #[tactic(auto, using(model::specs::Laws::Book::few_entries))]
+    pub fn of(words: &'a [u32]) -> Self
+        requires { Readable words.now }
+        ensures { result.words.now ≡ words.now }
+    {
+        Book {
+            words,
+            contents: of(words),
+        }
+    }
+}
+
 // What a body of a book is.
 #[derive(Clone, Copy, PartialEq, Eq)]
 pub enum Kind {
@@ -156,6 +170,14 @@ pub fn kind_of(words: &[u32], i: usize) -> u32
     words::word(words, 1 + 3 * i)
 }
 
+// The kind of body i, if its number is one.
+pub fn body_kind(words: &[u32], i: usize) -> Option<Kind>
+    requires { i < 65536 }
+    ensures { result ≡ kind_by (contents.kind_of words.now i) }
+{
+    Kind::of(kind_of(words, i))
+}
+
 // The first word of body i.
 pub fn first_of(words: &[u32], i: usize) -> usize
     requires { i < 65536 }
@@ -170,14 +192,6 @@ pub fn end_of(words: &[u32], i: usize) -> usize
     ensures { (result ≡ contents.end_of words.now i) × (result < 8589934592) }
 {
     first_of(words, i) + words::size_at(words, 3 + 3 * i)
-}
-
-// The kind of body i, if its number is one.
-pub fn body_kind(words: &[u32], i: usize) -> Option<Kind>
-    requires { i < 65536 }
-    ensures { result ≡ kind_by (contents.kind_of words.now i) }
-{
-    Kind::of(kind_of(words, i))
 }
 
 // How many of the first n entries are of group g.
@@ -206,20 +220,6 @@ pub fn of(words: &[u32]) -> Contents
         counters: members(words, n, KindGroup::Counters),
         rules: members(words, n, KindGroup::Rules),
         steps: members(words, n, KindGroup::Steps),
-    }
-}
-
-impl<'a> Book<'a> {
-    // The book of words that can be read.
-    #[tactic(auto, using(model::specs::Laws::Book::few_entries))]
-    pub fn of(words: &'a [u32]) -> Self
-        requires { Readable words.now }
-        ensures { result.words.now ≡ words.now }
-    {
-        Book {
-            words,
-            contents: of(words),
-        }
     }
 }
 
