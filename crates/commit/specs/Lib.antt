@@ -1,4 +1,5 @@
 pub mod Rows
+pub mod TableRows
 pub mod Indexed
 pub mod Walk
 pub mod Commit

@@ -1,6 +1,8 @@
 -- What the loops over rows and tables lean on.
-use Rattle.std.specs.Prelude.{ℕ, ◌+◌, ◌<◌, ◌≤◌, ◌≡◌, refl, Bool, true, false, cond, List, length, drop}
-use Rattle.std.proofs.Common.{ap, ◌∙◌, arith, take-take}
+use Rattle.std.specs.Prelude.{ℕ, ◌+◌, ◌-◌, ◌*◌, ◌/◌, ◌<◌, ◌≤◌, ◌≡◌, refl, Bool, true, false, cond, List, length, take, drop}
+use Rattle.std.proofs.Common.{ap, ◌∙◌, arith, take-take, drop-drop, zero-add}
+use Rattle.std.proofs.Math.Nat.{mul-div_cancel}
+use Rattle.std.proofs.lemmas.List.{drop-take}
 use Rattle.model.specs.Book.Decode.{part}
 use Rattle.model.specs.Laws.Iter.{iter_keeps, iter_agree}
 use Rattle.model.specs.Laws.Bodies.{length_part}
@@ -26,6 +28,20 @@ keep_keeps w log t i at s h st = unless_keeps (part w at i.width) (length_part w
 pub spare_keeps : (gone : List ℕ) (r : TableInfo) (row : List ℕ) {width : ℕ} → length row ≡ width → (s : Rows) → Stand width s → Keeps width s (spare_row gone r row s)
 unfolding spare_row
 spare_keeps gone r row len s st = unless_keeps row len s st (is_there (found_row gone r row))
+
+-- rows that stand alone are spared as where they stand
+pub spared_alone : (gone : List ℕ) (r : TableInfo) (w : List ℕ) (at k n : ℕ) (s : Rows) → 0 < k → at + n * k ≤ length w → spared gone r (part w at (n * k)) 0 k (length (part w at (n * k)) / k) s ≡ spared gone r w at k n s
+unfolding spared
+spared_alone gone r w at k n s some h =
+    let old = part w at (n * k) in
+    let e : length old / k ≡ n = ap (λ (m : ℕ). m / k) (length_part w at (n * k) h) ∙ mul-div_cancel n some in
+    rw e (iter_agree _ _ n s (λ j x l. ap (λ (row : List ℕ). spare_row gone r row x) (same j l)))
+  where
+    same : (j : ℕ) → j < n → part (part w at (n * k)) (0 + j * k) k ≡ part w (at + j * k) k
+    same j l =
+        let m : n * k ≡ j * k + (n * k - j * k) = omega (arith, row_within j n k l) in
+        let d : drop (j * k) (part w at (n * k)) ≡ take (n * k - j * k) (drop (at + j * k) w) = ap (λ (x : ℕ). drop (j * k) (take x (drop at w))) m ∙ drop-take (j * k) (n * k - j * k) (drop at w) ∙ ap (take (n * k - j * k)) (drop-drop (j * k) at w) in
+        rw (zero-add (j * k)) (ap (take k) d ∙ take-take k (n * k - j * k) (drop (at + j * k) w) (omega (arith, row_within j n k l)))
 
 -- the rows that the gathered keys spare are those that no removal names
 pub spared_kept : (w log : List ℕ) (t : ℕ) (i : TableInfo) (s : Rows) → i ≡ info_of w t → RowsStand w i → spared (removed_keys w log t i.keys).words (key_table i.keys (removed_keys w log t i.keys).count) w i.at i.width i.rows s ≡ kept w log t i i.rows s

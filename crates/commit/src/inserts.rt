@@ -1,13 +1,12 @@
 // The log's rows put into a table: by an index of its rows, where that is sooner made than the rows are looked at.
-ghost use Rattle.std.specs.Prelude.{◌≡◌, ◌&&◌, ◌||◌, ◌≤◌, leb, length};
+ghost use Rattle.std.specs.Prelude.{◌≡◌, ◌&&◌, ◌||◌, leb};
 ghost use Rattle.tables.specs.Tables.{info_of};
-ghost use Rattle.commit.specs.Rows.{Sound, Stand, as_rows};
+ghost use Rattle.commit.specs.TableRows.{rows_of, Leaves};
 ghost use Rattle.commit.specs.Walk.{inserted};
 
-use crate::rows::Part;
-use crate::{records, rows};
+use crate::records::Log;
+use crate::rows::TableRows;
 use ids::TableId;
-use tables::TableInfo;
 
 // Whether there are rows enough, in a log of so many words and in a table that has `count`.
 fn serves(log: usize, count: usize) -> bool
@@ -17,24 +16,15 @@ fn serves(log: usize, count: usize) -> bool
 }
 
 // The rows of all records that are some of table t, in the log's order.
-pub fn insert_rows(
-    words: &[u32],
-    log: &[u32],
-    t: TableId,
-    info: TableInfo,
-    rows: &mut [u32],
-    part: &mut Part,
-)
-    requires { (info ≡ info_of words.now t.0) × Sound info × Stand info.width (as_rows rows.old part.old)
-        × (length rows.old ≤ 16384) }
-    ensures { as_rows rows.new part.new ≡ inserted words.now log.now t.0 info
-        (as_rows rows.old part.old) }
+pub fn insert_rows(log: Log, t: TableId, rows: &mut TableRows)
+    requires { rows.old.info ≡ info_of log.words.now t.0 }
+    ensures { Leaves rows.old rows.new (inserted log.entry.words.now log.entry.records.now t.0 rows.old.info (rows_of rows.old)) }
 {
-    if serves(log.len(), part.count) {
+    if serves(log.records.len(), rows.part.count) {
         let mut index = [0u32; 18432];
-        hash_index::build(rows, rows::table_of(info, *part), &mut index);
-        records::insert_all(words, log, t, info, rows, &mut index, part)
+        rows.build(&mut index);
+        log.insert_all(t, rows, &mut index)
     } else {
-        records::insert_all(words, log, t, info, rows, &mut [], part)
+        log.insert_all(t, rows, &mut [])
     }
 }

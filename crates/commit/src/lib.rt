@@ -7,12 +7,13 @@ mod records;
 mod removals;
 mod rows;
 
-ghost use Rattle.std.specs.Prelude.{◌≡◌, false, ◌||◌, ℕ, ◌<◌, ◌≤◌, leb, length};
+ghost use Rattle.std.specs.Prelude.{◌≡◌, ◌||◌, ℕ, ◌<◌, ◌≤◌, leb, length};
 ghost use Rattle.tables.specs.Tables.{info_of, RowsStand};
 ghost use Rattle.commit.specs.Walk.{any_removal, gone_after};
 ghost use Rattle.commit.specs.Commit.{table_committed, committed_rows, as_left};
 
-use crate::rows::Part;
+use crate::records::Log;
+use crate::rows::{Part, TableRows};
 use ids::TableId;
 
 // How many rows each table has, and how many words they use in all; or a row had no room.
@@ -24,31 +25,27 @@ pub struct Committed {
 }
 
 // Table t, past the rows of the tables before it: first what the removals leave of its old rows, then the log's rows.
-fn commit_table(
-    words: &[u32],
-    log: &[u32],
-    t: TableId,
-    gone: &mut [u32],
-    rows: &mut [u32],
-    done: &mut Committed,
-    removes: bool,
-)
-    requires { (t.0 < 16) × RowsStand words.now (info_of words.now t.0) × (length log.now ≤ length gone.old)
-        × (length log.now ≤ 16384) × (done.old.used ≤ length rows.old) × (length rows.old ≤ 16384)
-        × (removes ≡ false → any_removal words.now log.now ≡ false) }
-    ensures rows { as_left rows.new done.new ≡ table_committed words.now log.now t.0
+fn commit_table(log: Log, t: TableId, gone: &mut [u32], rows: &mut [u32], done: &mut Committed)
+    requires { (t.0 < 16) × RowsStand log.words.now (info_of log.words.now t.0)
+        × (length log.records.now ≤ length gone.old) × (length log.records.now ≤ 16384)
+        × (done.old.used ≤ length rows.old) × (length rows.old ≤ 16384) }
+    ensures rows { as_left rows.new done.new ≡ table_committed log.entry.words.now log.entry.records.now t.0
         (as_left rows.old done.old) }
-    ensures gone { gone.new ≡ gone_after words.now log.now t.0 gone.old }
+    ensures gone { gone.new ≡ gone_after log.entry.words.now log.entry.records.now t.0 gone.old }
 {
-    let info = tables::info_of(words, t);
-    let mut part = Part {
-        count: 0,
-        used: done.used,
-        from: done.used,
-        over: done.over,
+    let mut table = TableRows {
+        words: rows,
+        info: tables::info_of(log.words, t),
+        part: Part {
+            count: 0,
+            used: done.used,
+            from: done.used,
+            over: done.over,
+        },
     };
-    removals::keep(words, log, t, info, gone, rows, &mut part, removes);
-    inserts::insert_rows(words, log, t, info, rows, &mut part);
+    removals::keep(log, t, gone, &mut table);
+    inserts::insert_rows(log, t, &mut table);
+    let part = table.part;
     done.counts[t.0 as usize] = part.count as u32;
     done.used = part.used;
     done.over = part.over;
@@ -72,7 +69,11 @@ fn commit_all<const N: usize>(
         × ((t : ℕ) → t < tables → RowsStand words.now (info_of words.now t)) }
     ensures { as_left rows.new result ≡ committed_rows words.now tables log.now rows.old }
 {
-    let removes = may_remove(words, tables, log);
+    let log = Log {
+        words,
+        records: log,
+        removes: may_remove(words, tables, log),
+    };
     let mut gone = [0u32; N];
     let mut done = Committed {
         counts: [0u32; 16],
@@ -80,15 +81,7 @@ fn commit_all<const N: usize>(
         over: false,
     };
     for t in 0..tables {
-        commit_table(
-            words,
-            log,
-            TableId(t as u32),
-            &mut gone,
-            rows,
-            &mut done,
-            removes,
-        );
+        commit_table(log, TableId(t as u32), &mut gone, rows, &mut done);
     }
     done
 }

@@ -1,14 +1,14 @@
 // A table's old rows that no removal of the log names. The keys that are removed are gathered once, as the rows of a table of their own, and each old row's key is looked up there: by an index, where that is sooner made than the keys are looked at.
-ghost use Rattle.std.specs.Prelude.{◌≡◌, true, false, ◌&&◌, ◌+◌, ◌*◌, ◌/◌, ◌≤◌, leb, length};
+ghost use Rattle.std.specs.Prelude.{◌≡◌, true, ◌&&◌, ◌+◌, ◌*◌, ◌/◌, ◌≤◌, leb, length};
 ghost use Rattle.tables.specs.Tables.{info_of, Stands, RowsStand};
 ghost use Rattle.hash_index.specs.Index.{IndexOf};
-ghost use Rattle.commit.specs.Rows.{Stand, as_rows};
 ghost use Rattle.record_log.specs.Walk.{is_removal};
-ghost use Rattle.commit.specs.Walk.{any_removal, store_turn, removed_keys, laid_onto, gone_after, as_keys};
+ghost use Rattle.commit.specs.Walk.{store_turn, removed_keys, laid_onto, gone_after, as_keys};
 ghost use Rattle.commit.specs.Commit.{kept, spare_row, spared};
+ghost use Rattle.commit.specs.TableRows.{rows_of, Leaves};
 
-use crate::rows;
-use crate::rows::Part;
+use crate::records::Log;
+use crate::rows::TableRows;
 use ids::TableId;
 use record_log::{Change, Places};
 use tables::TableInfo;
@@ -41,65 +41,48 @@ fn gather_all(words: &[u32], log: &[u32], t: TableId, k: usize, gone: &mut [u32]
 }
 
 // The same, where it may be known that there is no removal at all, as in most logs.
-fn gather_if(
-    words: &[u32],
-    log: &[u32],
-    t: TableId,
-    k: usize,
-    gone: &mut [u32],
-    removes: bool,
-) -> usize
-    requires { (k ≡ (info_of words.now t.0).keys) × (length log.now ≤ length gone.old)
-        × (removes ≡ false → any_removal words.now log.now ≡ false) }
-    ensures { (result * k + 2 * result ≤ length log.now)
+fn gather_if(log: Log, t: TableId, k: usize, gone: &mut [u32]) -> usize
+    requires { (k ≡ (info_of log.words.now t.0).keys) × (length log.records.now ≤ length gone.old) }
+    ensures { (result * k + 2 * result ≤ length log.entry.records.now)
         × (as_keys gone.new result ≡ laid_onto gone.old
-        (removed_keys words.now log.now t.0 k)) }
+        (removed_keys log.entry.words.now log.entry.records.now t.0 k)) }
 {
-    if removes {
-        gather_all(words, log, t, k, gone)
+    if log.removes {
+        gather_all(log.words, log.records, t, k, gone)
     } else {
         0
     }
 }
 
-// An old row, unless its key is that of a row of the table `removed`, whose rows are the words `gone`. An empty index is none.
-fn keep_row(
-    row: &[u32],
-    gone: &[u32],
-    index: &[u32],
-    removed: TableInfo,
-    rows: &mut [u32],
-    part: &mut Part,
-)
-    requires { Stands gone.now removed × IndexOf gone.now removed index.now × (removed.keys ≤ length row.now)
-        × (part.old.used ≤ length rows.old) × (part.old.count ≤ length rows.old) }
-    ensures { as_rows rows.new part.new ≡ spare_row gone.now removed row.now
-        (as_rows rows.old part.old) }
-{
-    match hash_index::look_up(gone, index, removed, &row[..removed.keys]) {
-        Some(_) => {}
-        None => rows::append(rows, part, row),
-    }
+// The keys that are removed: the rows of a table of their own.
+#[derive(Clone, Copy)]
+struct Removed<'a> {
+    keys: &'a [u32],
+    info: TableInfo,
+    ghost stands: { Stands keys.now info },
 }
 
-// The same of all rows of the table `info`, which stand in `words`.
-fn keep_all(
-    words: &[u32],
-    gone: &[u32],
-    index: &[u32],
-    removed: TableInfo,
-    info: TableInfo,
-    rows: &mut [u32],
-    part: &mut Part,
-)
-    requires { RowsStand words.now info × Stands gone.now removed × IndexOf gone.now removed index.now
-        × (removed.keys ≤ info.width) × Stand info.width (as_rows rows.old part.old) }
-    ensures { as_rows rows.new part.new ≡ spared gone.now removed words.now info.at info.width
-        info.rows (as_rows rows.old part.old) }
-{
-    let end = info.at + info.rows * info.width;
-    for row in words[info.at..end].chunks_exact(info.width) {
-        keep_row(row, gone, index, removed, rows, part);
+impl Removed<'_> {
+    // An old row, unless its key is one of them. An empty index is none.
+    #[tactic(auto, using(tables::specs::TablesLaws::found_taken), unfolding(crate::specs::Commit::spare_row))]
+    fn keep_row(self, index: &[u32], row: &[u32], rows: &mut TableRows)
+        requires { IndexOf self.keys.now self.info index.now × (self.info.keys ≤ length row.now) × (length row.now ≡ rows.old.info.width) }
+        ensures { Leaves rows.old rows.new (spare_row self.entry.keys.now self.entry.info row.now (rows_of rows.old)) }
+    {
+        if hash_index::look_up(self.keys, index, self.info, &row[..self.info.keys]).is_none() {
+            rows.append(row);
+        }
+    }
+
+    // The same of all old rows.
+    fn keep_all(self, index: &[u32], old: &[u32], rows: &mut TableRows)
+        requires { IndexOf self.keys.now self.info index.now × (self.info.keys ≤ rows.old.info.width) }
+        ensures { Leaves rows.old rows.new (spared self.entry.keys.now self.entry.info old.now 0 rows.old.info.width
+            (length old.now / rows.old.info.width) (rows_of rows.old)) }
+    {
+        for row in old.chunks_exact(rows.info.width) {
+            self.keep_row(index, row, rows);
+        }
     }
 }
 
@@ -110,38 +93,33 @@ fn serves(keys: usize, rows: usize) -> bool
     16 <= keys && 4096 / keys <= rows
 }
 
-// A table's old rows that no removal names. `gone` is lent for the removed keys: a table's rows, of which no word is a value. Where `removes` is false the log has none.
-pub fn keep(
-    words: &[u32],
-    log: &[u32],
-    t: TableId,
-    info: TableInfo,
-    gone: &mut [u32],
-    rows: &mut [u32],
-    part: &mut Part,
-    removes: bool,
-)
-    requires { (info ≡ info_of words.now t.0) × RowsStand words.now info × (length log.now ≤ length gone.old)
-        × (length log.now ≤ 16384) × Stand info.width (as_rows rows.old part.old)
-        × (removes ≡ false → any_removal words.now log.now ≡ false) }
-    ensures rows { as_rows rows.new part.new ≡ kept words.now log.now t.0 info info.rows
-        (as_rows rows.old part.old) }
-    ensures gone { gone.new ≡ gone_after words.now log.now t.0 gone.old }
+// A table's old rows that no removal names. `gone` is lent for the removed keys: a table's rows, of which no word is a value.
+pub fn keep(log: Log, t: TableId, gone: &mut [u32], rows: &mut TableRows)
+    requires { (rows.old.info ≡ info_of log.words.now t.0) × RowsStand log.words.now rows.old.info
+        × (length log.records.now ≤ length gone.old) × (length log.records.now ≤ 16384) }
+    ensures rows { Leaves rows.old rows.new (kept log.entry.words.now log.entry.records.now t.0 rows.old.info rows.old.info.rows
+        (rows_of rows.old)) }
+    ensures gone { gone.new ≡ gone_after log.entry.words.now log.entry.records.now t.0 gone.old }
 {
-    let n = gather_if(words, log, t, info.keys, gone, removes);
-    let removed = TableInfo {
-        keys: info.keys,
-        width: info.keys,
-        merge: 0,
-        rows: n,
-        at: 0,
+    let info = rows.info;
+    let k = info.keys;
+    let n = gather_if(log, t, k, gone);
+    let removed = Removed {
+        keys: &gone[..n * k],
+        info: TableInfo {
+            keys: k,
+            width: k,
+            merge: 0,
+            rows: n,
+            at: 0,
+        },
     };
-    let gone = &gone[..n * info.keys];
+    let old = &log.words[info.at..info.at + info.rows * info.width];
     if serves(n, info.rows) {
         let mut index = [0u32; 18432];
-        hash_index::build(gone, removed, &mut index);
-        keep_all(words, gone, &index, removed, info, rows, part)
+        hash_index::build(removed.keys, removed.info, &mut index);
+        removed.keep_all(&index, old, rows)
     } else {
-        keep_all(words, gone, &[], removed, info, rows, part)
+        removed.keep_all(&[], old, rows)
     }
 }

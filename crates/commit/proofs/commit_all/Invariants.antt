@@ -9,4 +9,4 @@ use Rattle.commit.proofs.commit_all.Given as goal
 abbrev pub invariant-loop-t : goal.invariant-loop-t
 invariant-loop-t g l =
     (l.done.used ≤ length l.initial.rows)
-    × (◌≡◌ {A = Left} (record { words = l.rows; result = l.done }) (iter (table_committed l.words l.log) l.t (record { words = l.initial.rows; result = record { counts = replicate 16 0; used = 0; over = false } })))
+    × (◌≡◌ {A = Left} (record { words = l.rows; result = l.done }) (iter (table_committed l.words l.fn.log) l.t (record { words = l.initial.rows; result = record { counts = replicate 16 0; used = 0; over = false } })))

@@ -10,11 +10,12 @@ use Rattle.tables.specs.Tables.{Stands}
 use Rattle.hash_index.specs.Index.{IndexOf}
 use Rattle.commit.specs.RowLaws.{few_rows, new_stands}
 use Rattle.commit.specs.IndexedLaws.{index_of}
-use Rattle.commit.proofs.rows.find.Goals as goal
+use Rattle.commit.proofs.rows.TableRows.find.Goals as goal
 
 pub look_up-requires : goal.look_up-requires
 look_up-requires c =
-    let a = c.args in
+    let r = c.args.self.now in
+    let index = c.args.index.now in
     let p = c.requires in
-    subst (λ (t : TableInfo). Stands a.rows.now t × IndexOf a.rows.now t a.index.now × (t.keys ≤ length a.key.now)) (sym c.table_of.ensures)
-    (new_stands p.0 p.1, either inl (λ q. inr (omega (arith, few_rows p.0.some p.1, p.2.few), q)) (index_of a.info a.index.now _ p.2.is), p.3)
+    subst (λ (t : TableInfo). Stands r.words.now t × IndexOf r.words.now t index × (t.keys ≤ length c.args.key.now)) (sym c.table.ensures)
+    (new_stands r.sound r.stand, either inl (λ q. inr (omega (arith, few_rows r.sound.some r.stand, p.0.few), q)) (index_of r.info index _ p.0.is), p.1)
