@@ -59,7 +59,7 @@ pub fn same_words(rows: &[u32], at: usize, key: &[u32]) -> bool
     (0..key.len()).all(|i| rows[at + i] == key[i])
 }
 
-// The committed row with the key.
+// The committed row with the key: the first words of it, as many as the table's keys have.
 #[tactic(auto, using(crate::specs::TablesLaws::found_nothing))]
 pub fn find(words: &[u32], info: TableInfo, key: &[u32]) -> Option<usize>
     requires { Stands words.now info × (info.keys ≤ length key.now) }
