@@ -1,6 +1,6 @@
 // A table's old rows that no removal of the log names. The keys that are removed are gathered once, as the rows of a table of their own, and each old row's key is looked up there: by an index, where that is sooner made than the keys are looked at.
 ghost use Rattle.std.specs.Prelude.{◌≡◌, true, ◌&&◌, ◌+◌, ◌*◌, ◌/◌, ◌≤◌, leb, length};
-ghost use Rattle.tables.specs.Tables.{info_of, Stands, RowsStand};
+ghost use Rattle.tables.specs.Tables.{info_of, RowsStand};
 ghost use Rattle.hash_index.specs.Index.{IndexOf};
 ghost use Rattle.record_log.specs.Walk.{is_removal};
 ghost use Rattle.commit.specs.Walk.{store_turn, removed_keys, laid_onto, gone_after, as_keys};
@@ -11,7 +11,7 @@ use crate::records::Log;
 use crate::rows::TableRows;
 use ids::TableId;
 use record_log::{Change, Places};
-use tables::TableInfo;
+use tables::{Rows, TableInfo};
 
 // If the record at p is a removal of table t, its key, of k words, is put into `gone`, past the n that are there; and how many are there then.
 fn gather(log: &[u32], p: usize, t: TableId, k: usize, gone: &mut [u32], n: usize) -> usize
@@ -54,35 +54,26 @@ fn gather_if(log: Log, t: TableId, k: usize, gone: &mut [u32]) -> usize
     }
 }
 
-// The keys that are removed: the rows of a table of their own.
-#[derive(Clone, Copy)]
-struct Removed<'a> {
-    keys: &'a [u32],
-    info: TableInfo,
-    ghost stands: { Stands keys.now info },
+// An old row, unless its key is one of those removed, which are the rows of a table of their own. An empty index is none.
+#[tactic(auto, using(tables::specs::TablesLaws::found_taken), unfolding(crate::specs::Commit::spare_row))]
+fn keep_row(removed: Rows, index: &[u32], row: &[u32], rows: &mut TableRows)
+    requires { IndexOf removed.words.now removed.info index.now × (removed.info.keys ≤ length row.now)
+        × (length row.now ≡ rows.old.info.width) }
+    ensures { Leaves rows.old rows.new (spare_row removed.entry.words.now removed.entry.info row.now (rows_of rows.old)) }
+{
+    if hash_index::look_up(removed, index, &row[..removed.info.keys]).is_none() {
+        rows.append(row);
+    }
 }
 
-impl Removed<'_> {
-    // An old row, unless its key is one of them. An empty index is none.
-    #[tactic(auto, using(tables::specs::TablesLaws::found_taken), unfolding(crate::specs::Commit::spare_row))]
-    fn keep_row(self, index: &[u32], row: &[u32], rows: &mut TableRows)
-        requires { IndexOf self.keys.now self.info index.now × (self.info.keys ≤ length row.now) × (length row.now ≡ rows.old.info.width) }
-        ensures { Leaves rows.old rows.new (spare_row self.entry.keys.now self.entry.info row.now (rows_of rows.old)) }
-    {
-        if hash_index::look_up(self.keys, index, self.info, &row[..self.info.keys]).is_none() {
-            rows.append(row);
-        }
-    }
-
-    // The same of all old rows.
-    fn keep_all(self, index: &[u32], old: &[u32], rows: &mut TableRows)
-        requires { IndexOf self.keys.now self.info index.now × (self.info.keys ≤ rows.old.info.width) }
-        ensures { Leaves rows.old rows.new (spared self.entry.keys.now self.entry.info old.now 0 rows.old.info.width
-            (length old.now / rows.old.info.width) (rows_of rows.old)) }
-    {
-        for row in old.chunks_exact(rows.info.width) {
-            self.keep_row(index, row, rows);
-        }
+// The same of all old rows.
+fn keep_all(removed: Rows, index: &[u32], old: &[u32], rows: &mut TableRows)
+    requires { IndexOf removed.words.now removed.info index.now × (removed.info.keys ≤ rows.old.info.width) }
+    ensures { Leaves rows.old rows.new (spared removed.entry.words.now removed.entry.info old.now 0 rows.old.info.width
+        (length old.now / rows.old.info.width) (rows_of rows.old)) }
+{
+    for row in old.chunks_exact(rows.info.width) {
+        keep_row(removed, index, row, rows);
     }
 }
 
@@ -93,7 +84,7 @@ fn serves(keys: usize, rows: usize) -> bool
     16 <= keys && 4096 / keys <= rows
 }
 
-// A table's old rows that no removal names. `gone` is lent for the removed keys: a table's rows, of which no word is a value.
+// A table's old rows that no removal names. `gone` is lent for the removed keys: they are rows of a table that has keys alone.
 pub fn keep(log: Log, t: TableId, gone: &mut [u32], rows: &mut TableRows)
     requires { (rows.old.info ≡ info_of log.words.now t.0) × RowsStand log.words.now rows.old.info
         × (length log.records.now ≤ length gone.old) × (length log.records.now ≤ 16384) }
@@ -104,8 +95,8 @@ pub fn keep(log: Log, t: TableId, gone: &mut [u32], rows: &mut TableRows)
     let info = rows.info;
     let k = info.keys;
     let n = gather_if(log, t, k, gone);
-    let removed = Removed {
-        keys: &gone[..n * k],
+    let removed = Rows {
+        words: &gone[..n * k],
         info: TableInfo {
             keys: k,
             width: k,
@@ -117,9 +108,9 @@ pub fn keep(log: Log, t: TableId, gone: &mut [u32], rows: &mut TableRows)
     let old = &log.words[info.at..info.at + info.rows * info.width];
     if serves(n, info.rows) {
         let mut index = [0u32; 18432];
-        hash_index::build(removed.keys, removed.info, &mut index);
-        removed.keep_all(&index, old, rows)
+        hash_index::build(removed, &mut index);
+        keep_all(removed, &index, old, rows)
     } else {
-        removed.keep_all(&[], old, rows)
+        keep_all(removed, &[], old, rows)
     }
 }

@@ -5,7 +5,7 @@ ghost use Rattle.commit.specs.Rows.{Sound, Stand, new_info, appended, put_row, a
 ghost use Rattle.commit.specs.Indexed.{index_for, IndexedRows};
 
 use crate::merge;
-use tables::TableInfo;
+use tables::{Rows, TableInfo};
 
 // How many rows a table has, how many words are used up to their end, and the word at which they begin; or a row had no room.
 #[derive(Clone, Copy)]
@@ -49,13 +49,16 @@ impl TableRows<'_> {
     }
 
     // The table as it stands among the rows.
-    fn table(&self) -> TableInfo
-        ensures { result ≡ new_info self.now.info self.now.part }
+    fn table(&self) -> Rows<'_>
+        ensures { (result.words.now ≡ self.now.words.now) × (result.info ≡ new_info self.now.info self.now.part) }
     {
-        TableInfo {
-            rows: self.part.count,
-            at: self.part.from,
-            ..self.info
+        Rows {
+            words: self.words,
+            info: TableInfo {
+                rows: self.part.count,
+                at: self.part.from,
+                ..self.info
+            },
         }
     }
 
@@ -64,7 +67,7 @@ impl TableRows<'_> {
         requires { index.old ≡ replicate 18432 0 }
         ensures { IndexedRows self.now.info (rows_of self.now) index.new }
     {
-        hash_index::build(self.words, self.table(), index)
+        hash_index::build(self.table(), index)
     }
 
     // The row with the key, by the index of the rows; an empty index is none, and all rows are looked at.
@@ -72,7 +75,7 @@ impl TableRows<'_> {
         requires { IndexedRows self.now.info (rows_of self.now) index.now × (self.now.info.keys ≤ length key.now) }
         ensures { result ≡ found_row self.now.words.now (new_info self.now.info self.now.part) key.now }
     {
-        hash_index::look_up(self.words, index, self.table(), key)
+        hash_index::look_up(self.table(), index, key)
     }
 
     // A row appended, and noted in the index if there is one.

@@ -4,6 +4,7 @@ ghost use Rattle.tables.specs.Tables.{info_of, Stands};
 ghost use Rattle.hash_index.specs.Book.{rows_before, book_indexed};
 
 use ids::TableId;
+use tables::Rows;
 
 // How many rows the first n tables have: the number of the first row of the next.
 #[tactic(auto, unfolding(crate::specs::Book::rows_before))]
@@ -28,7 +29,7 @@ pub fn build_all(words: &[u32], n: usize, index: &mut [u32])
     let mut first = 0;
     for t in 0..n {
         let info = tables::info_of(words, TableId(t as u32));
-        crate::add_rows(words, info, first, index);
+        crate::add_rows(Rows { words, info }, first, index);
         first += info.rows;
     }
 }

@@ -4,12 +4,12 @@
 mod all_tables;
 
 ghost use Rattle.std.specs.Prelude.{◌≡◌, ◌+◌, ◌-◌, ◌<◌, ◌≤◌, false, true, length, replicate, slice_index, MatchOption};
-ghost use Rattle.tables.specs.Tables.{Stands, row_at, found_row};
+ghost use Rattle.tables.specs.Tables.{row_at, found_row};
 ghost use Rattle.hash_index.specs.Fold.{mixed};
 ghost use Rattle.hash_index.specs.Index.{home_at, home_in, end_of, added, rows_added, indexed, Tails, Has, is_row, IndexAmong, IndexOf, serves};
 
 pub use all_tables::{build_all, rows_before};
-use tables::TableInfo;
+use tables::Rows;
 
 // A product by an odd number, wrapping at 32 bits: its high bits depend on all bits of the sum.
 pub fn mix(h: u32, x: u32) -> u32
@@ -49,46 +49,49 @@ pub fn add(index: &mut [u32], n: usize, h: usize)
 
 // All rows of a table, numbered from `first` on.
 #[tactic(auto, using(crate::specs::IndexLaws::tails_more), unfolding(crate::specs::Index::rows_added))]
-pub fn add_rows(words: &[u32], info: TableInfo, first: usize, index: &mut [u32])
-    requires { Stands words.now info × (first + info.rows ≤ 16384) × Tails first index.old }
-    ensures { index.new ≡ rows_added words.now info first info.rows index.old }
+pub fn add_rows(rows: Rows, first: usize, index: &mut [u32])
+    requires { (first + rows.info.rows ≤ 16384) × Tails first index.old }
+    ensures { index.new ≡ rows_added rows.entry.words.now rows.entry.info first rows.entry.info.rows index.old }
 {
+    let info = rows.info;
     for i in 0..info.rows {
         let at = info.at + i * info.width;
-        add(index, first + i, home(words, at, info.keys));
+        add(index, first + i, home(rows.words, at, info.keys));
     }
 }
 
 // All rows of a table alone, into an index that is zero.
-pub fn build(words: &[u32], info: TableInfo, index: &mut [u32])
-    requires { Stands words.now info × (info.rows ≤ 16384) × (index.old ≡ replicate 18432 0) }
-    ensures { index.new ≡ indexed (home_in words.now info) info.rows }
+pub fn build(rows: Rows, index: &mut [u32])
+    requires { (rows.info.rows ≤ 16384) × (index.old ≡ replicate 18432 0) }
+    ensures { index.new ≡ indexed (home_in rows.entry.words.now rows.entry.info) rows.entry.info.rows }
 {
-    add_rows(words, info, 0, index)
+    add_rows(rows, 0, index)
 }
 
 // The first word of row p - 1 of all rows, if it is one of the table and has the key.
 #[tactic(auto, using(tables::specs::TablesLaws::row_within, tables::specs::TablesLaws::same_taken), unfolding(crate::specs::Index::is_row))]
-fn its_row(words: &[u32], info: TableInfo, first: usize, p: usize, key: &[u32]) -> Option<usize>
-    requires { Stands words.now info × (first + info.rows ≤ 16384) × (info.keys ≤ length key.now) }
-    ensures { MatchOption result (is_row words.now info key.now first p ≡ false)
-        (λ at. (is_row words.now info key.now first p ≡ true) × (at ≡ row_at info (p - 1 - first))) }
+fn its_row(rows: Rows, first: usize, p: usize, key: &[u32]) -> Option<usize>
+    requires { (first + rows.info.rows ≤ 16384) × (rows.info.keys ≤ length key.now) }
+    ensures { MatchOption result (is_row rows.entry.words.now rows.entry.info key.now first p ≡ false)
+        (λ at. (is_row rows.entry.words.now rows.entry.info key.now first p ≡ true)
+        × (at ≡ row_at rows.entry.info (p - 1 - first))) }
 {
+    let info = rows.info;
     if p <= first || first + info.rows < p {
         return None;
     }
     let at = info.at + (p - 1 - first) * info.width;
-    tables::same_words(words, at, &key[..info.keys]).then_some(at)
+    tables::same_words(rows.words, at, &key[..info.keys]).then_some(at)
 }
 
-// The row with the key, as `tables::find` finds it.
-fn find(words: &[u32], index: &[u32], info: TableInfo, first: usize, key: &[u32]) -> Option<usize>
-    requires { Stands words.now info × Has words.now info first index.now × (info.keys ≤ length key.now) }
-    ensures { result ≡ found_row words.now info key.now }
+// The row with the key, as `Rows::find` finds it.
+fn find(rows: Rows, index: &[u32], first: usize, key: &[u32]) -> Option<usize>
+    requires { Has rows.words.now rows.info first index.now × (rows.info.keys ≤ length key.now) }
+    ensures { result ≡ found_row rows.entry.words.now rows.entry.info key.now }
 {
-    let mut p = index[home(key, 0, info.keys)] as usize;
+    let mut p = index[home(key, 0, rows.info.keys)] as usize;
     while p != 0 {
-        if let Some(at) = its_row(words, info, first, p, key) {
+        if let Some(at) = its_row(rows, first, p, key) {
             return Some(at);
         }
         p = index[2047 + p] as usize;
@@ -97,29 +100,23 @@ fn find(words: &[u32], index: &[u32], info: TableInfo, first: usize, key: &[u32]
 }
 
 // The same, where an empty index is none, and all rows are looked at.
-pub fn look_up_among(
-    words: &[u32],
-    index: &[u32],
-    info: TableInfo,
-    first: usize,
-    key: &[u32],
-) -> Option<usize>
-    requires { Stands words.now info × IndexAmong words.now info first index.now × (info.keys ≤ length key.now) }
-    ensures { result ≡ found_row words.now info key.now }
+pub fn look_up_among(rows: Rows, index: &[u32], first: usize, key: &[u32]) -> Option<usize>
+    requires { IndexAmong rows.words.now rows.info first index.now × (rows.info.keys ≤ length key.now) }
+    ensures { result ≡ found_row rows.entry.words.now rows.entry.info key.now }
 {
     if index.is_empty() {
-        return tables::find(words, info, key);
+        return rows.find(key);
     }
-    find(words, index, info, first, key)
+    find(rows, index, first, key)
 }
 
 // The same of a table that has the index alone.
 #[tactic(auto, using(crate::specs::BookLaws::among_alone))]
-pub fn look_up(words: &[u32], index: &[u32], info: TableInfo, key: &[u32]) -> Option<usize>
-    requires { Stands words.now info × IndexOf words.now info index.now × (info.keys ≤ length key.now) }
-    ensures { result ≡ found_row words.now info key.now }
+pub fn look_up(rows: Rows, index: &[u32], key: &[u32]) -> Option<usize>
+    requires { IndexOf rows.words.now rows.info index.now × (rows.info.keys ≤ length key.now) }
+    ensures { result ≡ found_row rows.entry.words.now rows.entry.info key.now }
 {
-    look_up_among(words, index, info, 0, key)
+    look_up_among(rows, index, 0, key)
 }
 
 // Whether so many rows are enough for an index to be of use, and no more than it has links for.

@@ -6,7 +6,7 @@ ghost use Rattle.predicted_index.specs.Row.{sought_in, Searchable, predicted_par
 
 use crate::Slot;
 use ids::TableId;
-use tables::TableInfo;
+use tables::{Rows, TableInfo};
 
 // The table in which a row is sought: its number, its sizes, and the number of its first row among the committed rows of all tables.
 #[derive(Clone, Copy)]
@@ -60,7 +60,11 @@ pub fn row_of<'a>(
     requires { Searchable words.now chains.now of × (of.info.keys ≤ length key.now) }
     ensures { result.now ≡ row_of home_of words.now log.now index.now of key.now }
 {
-    match hash_index::look_up_among(words, chains, of.info, of.first, key) {
+    let rows = Rows {
+        words,
+        info: of.info,
+    };
+    match hash_index::look_up_among(rows, chains, of.first, key) {
         Some(p) => words::part(words, p, of.info.width),
         None => in_log(log, index, of, key),
     }

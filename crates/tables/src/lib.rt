@@ -59,18 +59,29 @@ pub fn same_words(rows: &[u32], at: usize, key: &[u32]) -> bool
     (0..key.len()).all(|i| rows[at + i] == key[i])
 }
 
-// The committed row with the key: the first words of it, as many as the table's keys have.
-#[tactic(auto, using(crate::specs::TablesLaws::found_nothing))]
-pub fn find(words: &[u32], info: TableInfo, key: &[u32]) -> Option<usize>
-    requires { Stands words.now info × (info.keys ≤ length key.now) }
-    ensures { result ≡ found_row words.now info key.now }
-{
-    let key = &key[..info.keys];
-    for i in 0..info.rows {
-        let at = info.at + i * info.width;
-        if same_words(words, at, key) {
-            return Some(at);
+// A table's rows, where they stand in the words.
+#[derive(Clone, Copy)]
+pub struct Rows<'a> {
+    pub words: &'a [u32],
+    pub info: TableInfo,
+    ghost stands: { Stands words.now info },
+}
+
+impl Rows<'_> {
+    // The row with the key: the first words of it, as many as the table's keys have.
+    #[tactic(auto, using(crate::specs::TablesLaws::found_nothing))]
+    pub fn find(self, key: &[u32]) -> Option<usize>
+        requires { self.info.keys ≤ length key.now }
+        ensures { result ≡ found_row self.entry.words.now self.entry.info key.now }
+    {
+        let info = self.info;
+        let key = &key[..info.keys];
+        for i in 0..info.rows {
+            let at = info.at + i * info.width;
+            if same_words(self.words, at, key) {
+                return Some(at);
+            }
         }
+        None
     }
-    None
 }

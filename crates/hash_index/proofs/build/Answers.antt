@@ -5,10 +5,10 @@ use Rattle.hash_index.specs.BookLaws.{rows_alone}
 use Rattle.hash_index.proofs.build.Goals as goal
 
 pub add_rows-requires : goal.add_rows-requires
-add_rows-requires c = let p = c.requires in (p.0, omega (arith, p.1), subst (Tails 0) (sym p.2) tails_none)
+add_rows-requires c = let p = c.requires in (omega (arith, p.0), subst (Tails 0) (sym p.1) tails_none)
 
 pub returns : goal.returns
 returns c =
     let pre = c.requires in
     let a = c.args in
-    c.add_rows.ensures ∙ ap (rows_added a.words.now a.info 0 a.info.rows) pre.2 ∙ rows_alone a.words.now a.info a.info.rows
+    c.add_rows.ensures ∙ ap (rows_added a.rows.words.now a.rows.info 0 a.rows.info.rows) pre.1 ∙ rows_alone a.rows.words.now a.rows.info a.rows.info.rows

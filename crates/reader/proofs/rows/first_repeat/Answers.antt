@@ -10,12 +10,12 @@ pub returns-then-is_repeat : goal.returns-then-is_repeat
 returns-then-is_repeat c =
     let a = c.args in
     let l = c.loop-i in
-    let row : RowAt a.info l.i (row_at a.info l.i) = record { below = omega arith; is_own = refl } in
-    λ at e. refuse_row a.words.now a.info at e l.i (row_at a.info l.i) row l.invariant (sym c.if-is_repeat.true ∙ c.is_repeat.ensures l.i row)
+    let row : RowAt a.rows.info l.i (row_at a.rows.info l.i) = record { below = omega arith; is_own = refl } in
+    λ at e. refuse_row a.rows.words.now a.rows.info at e l.i (row_at a.rows.info l.i) row l.invariant (sym c.if-is_repeat.true ∙ c.is_repeat.ensures l.i row)
 
 pub returns : goal.returns
 returns c =
     let a = c.args in
     let l = c.loop-i in
-    let all : l.i ≡ a.info.rows = omega arith in
-    λ at e. pass_rows a.words.now a.info at e (rw all at l.invariant)
+    let all : l.i ≡ a.rows.info.rows = omega arith in
+    λ at e. pass_rows a.rows.words.now a.rows.info at e (rw all at l.invariant)

@@ -12,8 +12,8 @@ use Rattle.model.specs.Laws.Iter.{iter_more}
 use Rattle.tables.specs.TablesLaws.{next_row}
 use Rattle.commit.specs.Commit.{spare_row, spared}
 use Rattle.commit.specs.TableRows.{rows_of}
-use Rattle.commit.proofs.removals.Removed.keep_all.Goals as goal
-use Rattle.commit.proofs.removals.Removed.keep_all.Goals.{In-Some}
+use Rattle.commit.proofs.removals.keep_all.Goals as goal
+use Rattle.commit.proofs.removals.keep_all.Goals.{In-Some}
 
 -- of rows of k words, those from row i on: row i, and those past it
 module _ (w : List ℕ) (k i : ℕ) (x after : List ℕ) (long : length x ≡ k) (e : drop (i * k) w ≡ x ++ after) where
@@ -64,7 +64,7 @@ loop-row-preserved c =
       record {
         same_words = r.same_words ∙ l.invariant.3.same_words;
         same_info = r.same_info ∙ l.invariant.3.same_info;
-        rows = iter_more (λ j. spare_row a.self.keys.now a.self.info (part a.old.now (0 + j * k) k)) n (rows_of a.rows.now) (rows_of l.rows) _ l.invariant.3.rows (r.rows ∙ ap (λ (x : List ℕ). spare_row a.self.keys.now a.self.info x (rows_of l.rows)) (row_here a.old.now k n _ _ q d));
+        rows = iter_more (λ j. spare_row a.removed.words.now a.removed.info (part a.old.now (0 + j * k) k)) n (rows_of a.rows.now) (rows_of l.rows) _ l.invariant.3.rows (r.rows ∙ ap (λ (x : List ℕ). spare_row a.removed.words.now a.removed.info x (rows_of l.rows)) (row_here a.old.now k n _ _ q d));
       },
     )
 

@@ -2,7 +2,7 @@ use Prim.Native.Nat.{ℕ, ◌<◌}
 use mathlib.Core.Path.{◌≡◌}
 use mathlib.Core.Bool.{false}
 use Rattle.tables.specs.Tables.{same_words, row_at}
-use Rattle.tables.proofs.find.Given as goal
+use Rattle.tables.proofs.Rows.find.Given as goal
 
 abbrev pub invariant-loop-i : goal.invariant-loop-i
-invariant-loop-i l = (j : ℕ) → j < l.i → same_words l.words (row_at l.info j) l.fn.key l.info.keys ≡ false
+invariant-loop-i l = (j : ℕ) → j < l.i → same_words l.self.words.now (row_at l.self.info j) l.fn.key l.self.info.keys ≡ false

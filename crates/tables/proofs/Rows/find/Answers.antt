@@ -4,18 +4,18 @@ use native.Mathlib.Omega.{arith}
 use Rattle.model.specs.Laws.Logic.{either, le_cases}
 use Rattle.tables.specs.Tables.{same_words, row_at}
 use Rattle.tables.specs.TablesLaws.{found_at, same_taken}
-use Rattle.tables.proofs.find.Goals as goal
+use Rattle.tables.proofs.Rows.find.Goals as goal
 
 pub returns-then-same_words : goal.returns-then-same_words
 returns-then-same_words c =
     let a = c.args in
     let l = c.loop-i in
-    let here = same_taken a.words.now (row_at a.info l.i) a.key.now a.info.keys c.requires.1 in
-    found_at a.words.now a.info a.key.now l.i c.loop-i-test.true l.invariant (sym here ∙ sym c.same_words.ensures ∙ c.if-same_words.true)
+    let here = same_taken a.self.words.now (row_at a.self.info l.i) a.key.now a.self.info.keys c.requires in
+    found_at a.self.words.now a.self.info a.key.now l.i c.loop-i-test.true l.invariant (sym here ∙ sym c.same_words.ensures ∙ c.if-same_words.true)
 
 pub loop-i-preserved : goal.loop-i-preserved
 loop-i-preserved c j h =
     let a = c.args in
     let l = c.loop-i in
-    let missed : same_words a.words.now (row_at a.info l.i) a.key.now a.info.keys ≡ false = sym (same_taken a.words.now (row_at a.info l.i) a.key.now a.info.keys c.requires.1) ∙ sym c.same_words.ensures ∙ c.if-same_words.false in
+    let missed : same_words a.self.words.now (row_at a.self.info l.i) a.key.now a.self.info.keys ≡ false = sym (same_taken a.self.words.now (row_at a.self.info l.i) a.key.now a.self.info.keys c.requires) ∙ sym c.same_words.ensures ∙ c.if-same_words.false in
     either (l.invariant j) (λ (e : j ≡ l.i). rw e missed) (le_cases (omega arith))
