@@ -17,6 +17,7 @@ use Rattle.record_log.specs.declared.Change.TheVariants as change
 use Rattle.execution.specs.declared.ExecutionState.{ExecutionState}
 use Rattle.execution.specs.Execution.{Logged, staged_lanes}
 use Rattle.predict.specs.declared.Asking.{Asking}
+use Rattle.predict.specs.declared.run.Execution.{Execution}
 use Rattle.predict.specs.Predict.{Served, served_lanes}
 
 -- the live lanes, what the run keeps, and the array of the lanes' dst
@@ -27,8 +28,8 @@ pub record Lanes : Type 0 where
   pub index : List ℕ
   pub out : List ℕ
 
-abbrev pub as_lanes : List Bool → ExecutionState → (log index out : List ℕ) → Lanes
-as_lanes live state log index out = record { live = live; state = state; log = log; index = index; out = out }
+abbrev pub as_lanes : List Bool → Execution → List ℕ → Lanes
+as_lanes live e out = record { live = live; state = e.state; log = e.log.now; index = e.index.now; out = out }
 
 abbrev pub with_lanes : List Bool → List ℕ → Lanes → Lanes
 with_lanes live out l = record { live = live; state = l.state; log = l.log; index = l.index; out = out }

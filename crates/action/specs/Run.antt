@@ -10,6 +10,7 @@ use Rattle.instr.specs.declared.Instr.{Instr}
 use Rattle.instr.specs.Instr.{instr_at}
 use Rattle.instr.specs.Stands.{binds_of}
 use Rattle.execution.specs.Execution.{is_going}
+use Rattle.predict.specs.declared.run.Execution.{Execution}
 use Rattle.bindings.specs.declared.Bindings.{Bindings}
 use Rattle.mask.specs.declared.Mask.{Mask}
 use Rattle.execution.specs.declared.ExecutionState.{ExecutionState}
@@ -29,8 +30,8 @@ pub record Running : Type 0 where
   pub log : List ℕ
   pub index : List ℕ
 
-abbrev pub as_running : Batch → ExecutionState → (bindings log index : List ℕ) → Running
-as_running b state bindings log index = record { batch = record { bindings = b.bindings; mask = b.mask; state = state }; bindings = bindings; log = log; index = index }
+abbrev pub as_running : Batch → Execution → List ℕ → Running
+as_running b e bindings = record { batch = record { bindings = b.bindings; mask = b.mask; state = e.state }; bindings = bindings; log = e.log.now; index = e.index.now }
 
 -- dst takes the first n words of an array
 abbrev pub bound_to : Option ℕ → ℕ → List ℕ → List ℕ → List ℕ

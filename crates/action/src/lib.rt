@@ -11,17 +11,18 @@ ghost use Rattle.hash_index.specs.Book.{BookIndex};
 ghost use Rattle.bindings.specs.Bindings.{bound_in};
 ghost use Rattle.instr.specs.Instr.{instr_at};
 ghost use Rattle.instr.specs.Stands.{Stands, IsVariable, variable_of};
-ghost use Rattle.predict.specs.Predict.{Ready};
+ghost use Rattle.predict.specs.Predict.{SameWords};
 ghost use Rattle.action.specs.Act.{acted, as_lanes};
 ghost use Rattle.action.specs.Run.{bound_to, ran_instr, ran_next, ran_instrs, as_running};
 
 use bindings::Bindings;
 use contents::Book;
-use execution::{ExecutionState, Staging};
+use execution::Staging;
 use ids::{STALE, Variable};
 use instr::Instr;
 use lanes::{Ask, Test, View};
 use mask::Mask;
+use predict::Execution;
 use record_log::Change;
 
 // A batch as it runs: what its bindings keep beside the lent words, and which lanes are live.
@@ -33,21 +34,12 @@ pub struct Batch {
 
 // The lanes' part of an instruction; its dst is left in `out`.
 #[tactic(auto, using(crate::specs::ActLaws::searchable), unfolding(crate::specs::Act::acted))]
-fn act(
-    view: View,
-    i: Instr,
-    mask: Mask,
-    s: &mut ExecutionState,
-    log: &mut [u32],
-    index: &mut [u32],
-    out: &mut [u32],
-) -> Mask
+fn act(view: View, i: Instr, mask: Mask, run: &mut Execution, out: &mut [u32; 256]) -> Mask
     requires { Readable view.words.now × BookIndex view.words.now (table_count view.words.now) view.chains.now
-        × Stands view.words.now i × Ready s.old log.old index.old × (length out.old ≡ 256) }
-    ensures is { as_lanes result.live s.new log.new index.new out.new
-        ≡ acted view.entry.words.now view.entry.bindings.now i
-        (as_lanes mask.live s.old log.old index.old out.old) }
-    ensures fits { s.new.used ≤ length log.old }
+        × Stands view.words.now i }
+    ensures is { as_lanes result.live run.new out.new
+        ≡ acted view.entry.words.now view.entry.bindings.now i (as_lanes mask.live run.old out.old) }
+    ensures same { SameWords run.old run.new }
 {
     let words = view.words;
     match i {
@@ -59,7 +51,7 @@ fn act(
             ..
         } => {
             let ask = lookup::predicted_ask(words, table, args, default, dst_col);
-            lookup::lookup_or_insert_default(view, ask, mask, s, log, index, out);
+            lookup::lookup_or_insert_default(view, ask, mask, run, out);
             mask
         }
         Instr::LookupWithDefault {
@@ -99,7 +91,7 @@ fn act(
                 table,
                 vals,
             };
-            execution::stage_lanes(view, what, mask, s, log);
+            execution::stage_lanes(view, what, mask, &mut run.state, run.log);
             mask
         }
         Instr::InsertIfEq { table, l, r, vals } => {
@@ -108,7 +100,13 @@ fn act(
                 table,
                 vals,
             };
-            execution::stage_lanes(view, what, view.retain(Test::Eq(l, r), mask), s, log);
+            execution::stage_lanes(
+                view,
+                what,
+                view.retain(Test::Eq(l, r), mask),
+                &mut run.state,
+                run.log,
+            );
             mask
         }
         Instr::Remove { table, args } => {
@@ -117,7 +115,7 @@ fn act(
                 table,
                 vals: args,
             };
-            execution::stage_lanes(view, what, mask, s, log);
+            execution::stage_lanes(view, what, mask, &mut run.state, run.log);
             mask
         }
         Instr::External { func, args, .. } => view.fill(Ask::External { func, args }, mask, out),
@@ -143,7 +141,8 @@ fn act(
         Instr::AssertAnyNe { ops, divider } => view.retain(Test::AnyNe { ops, divider }, mask),
         Instr::ReadCounter { counter, .. } => {
             // Dead lanes too have the counter's next in dst.
-            view.fill(Ask::Const(s.read_counter(counter)), Mask::new(256), out);
+            let next = run.state.read_counter(counter);
+            view.fill(Ask::Const(next), Mask::new(256), out);
             mask
         }
     }
@@ -164,55 +163,48 @@ fn bind_dst(kept: Bindings, dst: Option<Variable>, out: &[u32], bindings: &mut [
 // One instruction: its lanes' part, and its dst bound.
 #[tactic(auto, unfolding(crate::specs::Run::ran_instr))]
 fn run_instr(
-    words: &[u32],
+    book: Book,
     chains: &[u32],
     i: Instr,
     batch: &mut Batch,
-    s: &mut ExecutionState,
+    run: &mut Execution,
     bindings: &mut [u32],
-    log: &mut [u32],
-    index: &mut [u32],
 )
-    requires { Readable words.now × BookIndex words.now (table_count words.now) chains.now × Stands words.now i
-        × Ready s.old log.old index.old × (length bindings.old ≡ 8192) }
-    ensures is { as_running batch.new s.new bindings.new log.new index.new
-        ≡ ran_instr words.now i
-        (as_running batch.old s.old bindings.old log.old index.old) }
-    ensures fits { s.new.used ≤ length log.old }
+    requires { BookIndex book.words.now (table_count book.words.now) chains.now
+        × Stands book.words.now i × (length bindings.old ≡ 8192) }
+    ensures is { as_running batch.new run.new bindings.new
+        ≡ ran_instr book.entry.words.now i (as_running batch.old run.old bindings.old) }
+    ensures same { SameWords run.old run.new }
 {
     let view = View {
-        words,
+        words: book.words,
         chains,
         bindings,
     };
     let mut out = [STALE; 256];
-    batch.mask = act(view, i, batch.mask, s, log, index, &mut out);
+    batch.mask = act(view, i, batch.mask, run, &mut out);
     batch.bindings = bind_dst(batch.bindings, i.dst(), &out, bindings);
 }
 
 // The instruction whose opcode stands at p, if a lane is live and the run goes on.
 #[tactic(auto, unfolding(crate::specs::Run::ran_next))]
 fn run_next(
-    words: &[u32],
+    book: Book,
     chains: &[u32],
     p: usize,
     batch: &mut Batch,
-    s: &mut ExecutionState,
+    run: &mut Execution,
     bindings: &mut [u32],
-    log: &mut [u32],
-    index: &mut [u32],
 )
-    requires { Readable words.now × BookIndex words.now (table_count words.now) chains.now × (p ≤ 16384)
-        × Stands words.now (instr_at words.now p) × Ready s.old log.old index.old
-        × (length bindings.old ≡ 8192) }
-    ensures is { as_running batch.new s.new bindings.new log.new index.new
-        ≡ ran_next words.now p
-        (as_running batch.old s.old bindings.old log.old index.old) }
-    ensures fits { s.new.used ≤ length log.old }
+    requires { BookIndex book.words.now (table_count book.words.now) chains.now × (p ≤ 16384)
+        × Stands book.words.now (instr_at book.words.now p) × (length bindings.old ≡ 8192) }
+    ensures is { as_running batch.new run.new bindings.new
+        ≡ ran_next book.entry.words.now p (as_running batch.old run.old bindings.old) }
+    ensures same { SameWords run.old run.new }
 {
-    if s.going() && !batch.mask.is_empty() {
-        let i = instr::instr_at(words, p);
-        run_instr(words, chains, i, batch, s, bindings, log, index);
+    if run.state.going() && !batch.mask.is_empty() {
+        let i = instr::instr_at(book.words, p);
+        run_instr(book, chains, i, batch, run, bindings);
     }
 }
 
@@ -223,26 +215,23 @@ pub fn run_instrs(
     chains: &[u32],
     r: usize,
     batch: &mut Batch,
-    s: &mut ExecutionState,
+    run: &mut Execution,
     bindings: &mut [u32],
-    log: &mut [u32],
-    index: &mut [u32],
 )
     requires { BookIndex book.words.now (table_count book.words.now) chains.now
-        × (r < rule_count book.words.now) × Ready s.old log.old index.old
-        × (length bindings.old ≡ 8192) }
-    ensures is { as_running batch.new s.new bindings.new log.new index.new
+        × (r < rule_count book.words.now) × (length bindings.old ≡ 8192) }
+    ensures is { as_running batch.new run.new bindings.new
         ≡ ran_instrs book.entry.words.now (rule_first book.entry.words.now r)
         (get_or book.entry.words.now (rule_first book.entry.words.now r + 1) 0)
-        (as_running batch.old s.old bindings.old log.old index.old) }
-    ensures fits { s.new.used ≤ length log.old }
+        (as_running batch.old run.old bindings.old) }
+    ensures same { SameWords run.old run.new }
 {
     let words = book.words;
     let first = contents::first_of(words, book.contents.first_rule() + r);
     let n = words::size_at(words, first + 1);
     let mut p = first + 2;
     for _ in 0..n {
-        run_next(words, chains, p, batch, s, bindings, log, index);
+        run_next(book, chains, p, batch, run, bindings);
         p = instr::next(words, p);
     }
 }

@@ -3,15 +3,14 @@ ghost use Rattle.std.specs.Prelude.{◌≡◌, ◌≤◌, length};
 ghost use Rattle.instr.specs.Stands.{Short};
 ghost use Rattle.predicted_index.specs.Row.{Searchable};
 ghost use Rattle.lanes.specs.Lanes.{AskFits};
-ghost use Rattle.predict.specs.Predict.{Ready};
+ghost use Rattle.predict.specs.Predict.{SameWords};
 ghost use Rattle.action.specs.Act.{row_ask, asking, either_lanes, either_words, serving, as_lanes};
 
-use execution::ExecutionState;
 use ids::{ColumnId, TableId};
 use instr::Entries;
 use lanes::{Ask, View};
 use mask::Mask;
-use predict::{Asking, Row};
+use predict::{Asking, Execution, Row};
 use predicted_index::Sought;
 
 // A column of the committed row with a key.
@@ -46,8 +45,8 @@ pub fn predicted_ask(
 }
 
 // Each lane of the mask asks, and asks otherwise if it is not answered; the lanes that were answered.
-pub fn fill_or_else(view: View, ask: Ask, other: Ask, mask: Mask, out: &mut [u32]) -> Mask
-    requires { AskFits view.words.now view.chains.now ask × AskFits view.words.now view.chains.now other × (length out.old ≡ 256) }
+pub fn fill_or_else(view: View, ask: Ask, other: Ask, mask: Mask, out: &mut [u32; 256]) -> Mask
+    requires { AskFits view.words.now view.chains.now ask × AskFits view.words.now view.chains.now other }
     ensures words { out.new ≡ either_words view.entry.words.now view.entry.bindings.now ask other mask.live out.old }
     ensures lanes { result.live ≡ either_lanes view.entry.words.now view.entry.bindings.now ask other mask.live }
 {
@@ -62,17 +61,14 @@ pub fn lookup_or_insert_default(
     view: View,
     ask: Asking,
     mask: Mask,
-    s: &mut ExecutionState,
-    log: &mut [u32],
-    index: &mut [u32],
-    out: &mut [u32],
+    run: &mut Execution,
+    out: &mut [u32; 256],
 )
-    requires { Searchable view.words.now view.chains.now ask.row.of × Short ask.key × Short ask.row.vals
-        × Ready s.old log.old index.old × (length out.old ≡ 256) }
-    ensures is { as_lanes mask.live s.new log.new index.new out.new
+    requires { Searchable view.words.now view.chains.now ask.row.of × Short ask.key × Short ask.row.vals }
+    ensures is { as_lanes mask.live run.new out.new
         ≡ serving view.entry.words.now view.entry.bindings.now ask
-        (as_lanes mask.live s.old log.old index.old out.old) }
-    ensures fits { s.new.used ≤ length log.old }
+        (as_lanes mask.live run.old out.old) }
+    ensures same { SameWords run.old run.new }
 {
     let row = Ask::Lookup {
         of: ask.row.of,
@@ -81,5 +77,5 @@ pub fn lookup_or_insert_default(
     };
     let found = view.fill(row, mask, out);
     let missed = mask.difference(found);
-    predict::serve_lanes(view, ask, missed, s, log, index, out)
+    predict::serve_lanes(view, ask, missed, run, out)
 }

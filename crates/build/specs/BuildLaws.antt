@@ -1,6 +1,6 @@
 -- A row that is built has 16 words at most.
 use Rattle.std.specs.Prelude.{◌<◌, option_map, set, ℕ, zero, suc, Bool, true, false, eqb, ◌+◌, ◌*◌, ◌≤◌, ◌≡◌, refl, List, get_or, Option, None, Some, IfSome}
-use Rattle.std.proofs.Common.{sym, subst, ap, ◌∙◌, arith, eqb-true}
+use Rattle.std.proofs.Common.{sym, subst, ap, arith, eqb-true}
 use Rattle.std.proofs.lemmas.Bool.{eqb-false}
 use Rattle.model.specs.Basics.{iter, found}
 use Rattle.model.specs.Machine.Values.{draw}

@@ -8,7 +8,7 @@ use Rattle.commit.specs.Commit.{Left, committed_rows}
 use Rattle.execution.specs.declared.Stop.{Stop}
 use Rattle.execution.specs.declared.Stop.TheVariants.{Spent, Full}
 use Rattle.answer.specs.Layout.{Results, left_by, assembled, assembled_length}
-use Rattle.run.specs.declared.Progress.{Progress}
+use Rattle.run.specs.Progress.{Progress}
 use Rattle.simulation.specs.Runs.{RunIs}
 use Rattle.refusal.specs.declared.Refusal.{Refusal}
 use Rattle.refusal.specs.declared.Refusal.TheVariants.{LogFull, CounterSpent, RowsFull}

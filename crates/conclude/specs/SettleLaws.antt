@@ -10,8 +10,7 @@ use Rattle.execution.specs.declared.Stop.{Stop}
 use Rattle.refusal.specs.declared.Refusal.{Refusal}
 use Rattle.refusal.specs.declared.Refusal.TheVariants.{RowsFull}
 use Rattle.answer.specs.Layout.{Results, left_by, assembled, assembled_length, Enough}
-use Rattle.run.specs.declared.Progress.{Progress}
-use Rattle.run.specs.Progress.{Ran}
+use Rattle.run.specs.Progress.{Progress, Ran}
 use Rattle.simulation.specs.Ends as ends
 use Rattle.conclude.specs.End.{Settles, committed_to, settled, by_stop, concluded}
 

@@ -9,8 +9,7 @@ use Rattle.model.specs.Outcome.{Lent, words_refusal, book_refusal, Permitted}
 use Rattle.refusal.specs.declared.Refusal.{Refusal}
 use Rattle.refusal.specs.Refusal.{refusal_of}
 use Rattle.admit.specs.BookLaws.{book_on}
-use Rattle.run.specs.declared.Progress.{Progress}
-use Rattle.run.specs.Progress.{Ran, ran_steps}
+use Rattle.run.specs.Progress.{Progress, Ran, ran_steps}
 use Rattle.simulation.specs.Ends.{start_progress}
 use Rattle.engine.specs.Engine.{lent_of, lengths_fit, Runnable, Decided, outcome_of, AnswerLeft, kept_answer}
 use Rattle.conclude.specs.End.{Concludes, RanOn, Settling, concluded}

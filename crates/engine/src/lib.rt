@@ -6,15 +6,17 @@ ghost use Rattle.model.specs.Book.Words.{bytes_refusal, words_of};
 ghost use Rattle.model.specs.Book.Read as read;
 ghost use Rattle.model.specs.Outcome.{Permitted, words_refusal};
 ghost use Rattle.counter.specs.CounterLaws.{padded};
-ghost use Rattle.simulation.specs.Ends.{start_progress};
-ghost use Rattle.conclude.specs.End.{Concludes};
+ghost use Rattle.simulation.specs.Ends.{start_state};
+ghost use Rattle.run.specs.Progress.{as_progress};
+ghost use Rattle.conclude.specs.End.{RanOn, Concludes, as_settling, concluded};
 ghost use Rattle.engine.specs.Engine.{lent_of, lengths_fit, Runnable, Decided, outcome_of, AnswerLeft, kept_answer};
 
 use contents::Book;
 use counter::Counters;
 use execution::ExecutionState;
+use predict::Execution;
 use refusal::Refusal;
-use run::Progress;
+use run::Answered;
 
 // The book's counters, 0 past the last.
 fn counters_of(book: Book) -> Counters
@@ -31,20 +33,31 @@ fn counters_of(book: Book) -> Counters
 }
 
 // A fresh execution state, before the first step.
-fn start(book: Book) -> Progress
-    ensures { result ≡ start_progress book.entry.words.now }
+fn start(book: Book) -> ExecutionState
+    ensures { result ≡ start_state book.entry.words.now }
 {
-    Progress {
-        state: ExecutionState {
-            used: 0,
-            counters: counters_of(book),
-            changed: false,
-            stop: None,
-        },
-        done: 0,
-        at: 0,
-        lengths: [0u32; 64],
+    ExecutionState {
+        used: 0,
+        counters: counters_of(book),
+        changed: false,
+        stop: None,
     }
+}
+
+// What a run comes to, by the state and the log that it left.
+fn conclude_run(
+    book: Book,
+    p: &Answered,
+    run: &Execution,
+    tables: &mut [u32],
+    answer: &mut [u32],
+) -> Result<usize, Refusal>
+    requires { (p.now.done ≤ 64) × (length tables.old ≤ 16384)
+        × RanOn book.words.now (as_progress p.now run.now.state) run.now.log.now answer.old }
+    ensures { as_settling result tables.new answer.new ≡ concluded book.entry.words.now
+        (as_progress p.now run.now.state) run.now.log.now tables.old answer.old }
+{
+    conclude::conclude(book, p, &run.state, run.log, tables, answer)
 }
 
 // The words of a book that draws none of refusals 1 to 11: its run, the commit and the answer.
@@ -67,9 +80,18 @@ fn run_book(
         words,
         contents: contents::of(words),
     };
-    let mut p = start(book);
-    run::run_steps(book, &mut p, bindings, log, index, answer);
-    conclude::conclude(book, &p, log, tables, answer)
+    let mut p = Answered {
+        done: 0,
+        at: 0,
+        lengths: [0u32; 64],
+    };
+    let mut run = Execution {
+        state: start(book),
+        log,
+        index,
+    };
+    run::run_steps(book, &mut p, &mut run, bindings, answer);
+    conclude_run(book, &p, &run, tables, answer)
 }
 
 // A book that refusal 1 passes, loaded into an array of N words: refusals 2 to 11, and then its run.

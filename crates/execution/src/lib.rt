@@ -4,7 +4,7 @@
 ghost use Rattle.std.specs.Prelude.{◌≡◌, ◌≤◌, ◌<◌, false, length, get_or};
 ghost use Rattle.instr.specs.Stands.{Short};
 ghost use Rattle.lanes.specs.Lanes.{listed};
-ghost use Rattle.execution.specs.Execution.{is_going, stopped, changing, staged, staged_change, staged_lane, staged_lanes, as_logged};
+ghost use Rattle.execution.specs.Execution.{is_going, stopped, staged, staged_change, staged_lane, staged_lanes, as_logged};
 ghost use Rattle.record_log.specs.declared.Change.TheVariants.{Insert, Remove};
 
 use counter::Counters;
@@ -21,7 +21,7 @@ pub enum Stop {
     Full,
 }
 
-// What is kept by value: how many words of the log are used, the counters, whether anything was staged, and why the run stopped, if it did.
+// What a run keeps beside its log: how many words of the log are used, the counters, whether anything was staged, and why the run stopped, if it did.
 #[derive(Clone, Copy)]
 pub struct ExecutionState {
     pub used: usize,
@@ -72,14 +72,14 @@ impl ExecutionState {
         }
     }
 
-    // A record of kind 0 or 1, which changes a table.
-    fn stage_changing(&mut self, kind: u32, table: TableId, row: &[u32], log: &mut [u32])
+    // A record that changes its table.
+    fn stage_changing(&mut self, change: Change, table: TableId, row: &[u32], log: &mut [u32])
         requires { (self.old.used ≤ length log.old) × (length row.now ≤ 16) }
-        ensures is { let t = staged kind table.0 row.now (length row.now) (as_logged self.old log.old) in
-            as_logged self.new log.new ≡ as_logged (changing t.state) t.log }
+        ensures is { as_logged self.new log.new
+            ≡ staged_change change table.0 row.now (length row.now) (as_logged self.old log.old) }
         ensures fits { self.new.used ≤ length log.old }
     {
-        self.stage(kind, table, row, log);
+        self.stage(change as u32, table, row, log);
         self.changed = true;
     }
 
@@ -90,7 +90,7 @@ impl ExecutionState {
             ≡ staged_change Insert table.0 row.now (length row.now) (as_logged self.old log.old) }
         ensures fits { self.new.used ≤ length log.old }
     {
-        self.stage_changing(0, table, row, log)
+        self.stage_changing(Change::Insert, table, row, log)
     }
 
     // A removal of the row with a key.
@@ -100,7 +100,7 @@ impl ExecutionState {
             ≡ staged_change Remove table.0 key.now (length key.now) (as_logged self.old log.old) }
         ensures fits { self.new.used ≤ length log.old }
     {
-        self.stage_changing(1, table, key, log)
+        self.stage_changing(Change::Remove, table, key, log)
     }
 }
 

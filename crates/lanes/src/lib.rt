@@ -65,19 +65,16 @@ pub fn entry_ask(e: QueryEntry) -> Ask
 fn column(row: &[u32], col: ColumnId) -> Option<u32>
     ensures { result ≡ slice_get row.now col.0 }
 {
-    match row.get(col.0 as usize) {
-        Some(word) => Some(*word),
-        None => None,
-    }
+    row.get(col.0 as usize).copied()
 }
 
-// A pass of `fill`: each live lane has the word that `answer` gives it, and is live no more where it gives none. What `answer` is lent is for its arguments. The families are told apart here, outside of the loop.
+// A pass of `fill`: each live lane has the word that `answer` gives it, and is live no more where it gives none. What `answer` is lent is for its arguments. So the families are told apart outside of the loop.
 fn fill_by<F: Fn(Lane, &mut [u32; 16]) -> Option<u32>>(
     mut mask: Mask,
-    out: &mut [u32],
+    out: &mut [u32; 256],
     answer: F,
 ) -> Mask
-    requires { F.IsAlwaysCallable answer × (length out.old ≡ 256) }
+    requires { F.IsAlwaysCallable answer }
     ensures { (ask : ℕ → Option ℕ)
         → ((lane : _) (lent : _) (r : Option ℕ) (left : _) → F.post answer lane lent r left → r ≡ ask lane.0)
         → Fills ask mask.live out.old result.live out.new }
@@ -183,9 +180,9 @@ impl<'a> View<'a> {
         key: Entries,
         col: ColumnId,
         mask: Mask,
-        out: &mut [u32],
+        out: &mut [u32; 256],
     ) -> Mask
-        requires { Searchable self.words.now self.chains.now of × Short key × (length out.old ≡ 256) }
+        requires { Searchable self.words.now self.chains.now of × Short key }
         ensures { Fills (asked self.entry.words.now self.entry.bindings.now (Lookup of key col)) mask.live
             out.old result.live out.new }
     {
@@ -198,9 +195,9 @@ impl<'a> View<'a> {
         func: ExternalFunctionId,
         args: Entries,
         mask: Mask,
-        out: &mut [u32],
+        out: &mut [u32; 256],
     ) -> Mask
-        requires { Short args × (length out.old ≡ 256) }
+        requires { Short args }
         ensures { Fills (asked self.entry.words.now self.entry.bindings.now (External func args)) mask.live
             out.old result.live out.new }
     {
@@ -208,8 +205,7 @@ impl<'a> View<'a> {
     }
 
     // An entry answers every lane, so that the mask stays.
-    fn fill_entry(self, e: QueryEntry, mask: Mask, out: &mut [u32]) -> Mask
-        requires { length out.old ≡ 256 }
+    fn fill_entry(self, e: QueryEntry, mask: Mask, out: &mut [u32; 256]) -> Mask
         ensures { Fills (λ i. Some (word_of self.entry.bindings.now i (entry_of e))) mask.live
             out.old result.live out.new }
     {
@@ -221,8 +217,8 @@ impl<'a> View<'a> {
 
     // Each lane of the mask that is answered has its word in `out`; the lanes that were.
     #[tactic(auto, unfolding(crate::specs::Lanes::asked))]
-    pub fn fill(self, ask: Ask, mask: Mask, out: &mut [u32]) -> Mask
-        requires { AskFits self.words.now self.chains.now ask × (length out.old ≡ 256) }
+    pub fn fill(self, ask: Ask, mask: Mask, out: &mut [u32; 256]) -> Mask
+        requires { AskFits self.words.now self.chains.now ask }
         ensures lanes { result.live ≡ answered_lanes (asked self.entry.words.now self.entry.bindings.now ask) mask.live }
         ensures words { out.new ≡ answered_words (asked self.entry.words.now self.entry.bindings.now ask) mask.live
             out.old }

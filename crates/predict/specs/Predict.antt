@@ -1,5 +1,5 @@
 -- The predicted row of a key, in the words of the log and the index: w is the book's words, m the memory of the bindings.
-use Rattle.std.specs.Prelude.{ℕ, ◌+◌, ◌≤◌, ◌≡◌, Bool, true, false, ◌&&◌, ◌||◌, cond, List, length, get_or, set, Option, Some, None}
+use Rattle.std.specs.Prelude.{ℕ, ◌+◌, ◌≡◌, Bool, true, false, ◌&&◌, ◌||◌, cond, List, length, get_or, set, Option, Some, None}
 use Rattle.model.specs.Basics.{iter, when}
 use Rattle.args.specs.declared.Args.{Args}
 use Rattle.tables.specs.Tables.{found_row}
@@ -17,12 +17,7 @@ use Rattle.execution.specs.declared.ExecutionState.{ExecutionState}
 use Rattle.execution.specs.Execution.{is_going, stopped, Logged, staged}
 use Rattle.predict.specs.declared.Row.{Row}
 use Rattle.predict.specs.declared.Asking.{Asking}
-
--- what the code may suppose of the words lent for the log and the index
-pub record Ready (s : ExecutionState) (log index : List ℕ) : Type 0 where
-  pub used : s.used ≤ length log
-  pub short : length log ≤ 16384
-  pub slots : length index ≡ 8192
+use Rattle.predict.specs.declared.run.Execution.{Execution}
 
 -- a run's state with its log and index
 pub record Held : Type 0 where
@@ -30,8 +25,14 @@ pub record Held : Type 0 where
   pub log : List ℕ
   pub index : List ℕ
 
-abbrev pub as_held : ExecutionState → (log index : List ℕ) → Held
-as_held state log index = record { state = state; log = log; index = index }
+abbrev pub as_held : Execution → Held
+as_held e = record { state = e.state; log = e.log.now; index = e.index.now }
+
+-- a call leaves the same words lent, and as many, whatever it puts there
+pub record SameWords (e f : Execution) : Type 0 where
+  pub log : f.log.ghost_name ≡ e.log.ghost_name
+  pub index : f.index.ghost_name ≡ e.index.ghost_name
+  pub size : length f.log.now ≡ length e.log.now
 
 -- a row was got: whether it was made, and what the run keeps
 pub record Got : Type 0 where
@@ -44,8 +45,8 @@ pub record Gotten : Type 0 where
   pub log : List ℕ
   pub index : List ℕ
 
-abbrev pub as_gotten : Bool → ExecutionState → (log index : List ℕ) → Gotten
-as_gotten made state log index = record { got = record { made = made; state = state }; log = log; index = index }
+abbrev pub as_gotten : Bool → Execution → Gotten
+as_gotten made e = record { got = record { made = made; state = e.state }; log = e.log.now; index = e.index.now }
 
 -- with the lanes' words
 pub record Served : Type 0 where
@@ -54,8 +55,8 @@ pub record Served : Type 0 where
   pub index : List ℕ
   pub out : List ℕ
 
-abbrev pub as_served : ExecutionState → (log index out : List ℕ) → Served
-as_served state log index out = record { state = state; log = log; index = index; out = out }
+abbrev pub as_served : Execution → List ℕ → Served
+as_served e out = record { state = e.state; log = e.log.now; index = e.index.now; out = out }
 
 abbrev pub stopped_by : Option Stop → ExecutionState → Got
 stopped_by why s = record { made = false; state = stopped why s }

@@ -1,19 +1,23 @@
 // Predicted rows: one for each table and asked key, found in the log by the index, else built and logged; and who asks for them.
 #![tactic(auto)]
 
+mod run;
+
 ghost use Rattle.std.specs.Prelude.{◌≡◌, ◌≤◌, ◌<◌, false, length, get_or};
 ghost use Rattle.predicted_index.specs.Row.{Searchable};
 ghost use Rattle.instr.specs.Stands.{Short};
-ghost use Rattle.predict.specs.Predict.{Ready, as_gotten, as_held, as_served};
+ghost use Rattle.predict.specs.Predict.{SameWords, as_gotten, as_held, as_served};
 ghost use Rattle.predict.specs.Predict.{inserted, gotten, taken_word, served_lane, served_lanes, answered};
 
 use args::Args;
-use execution::{ExecutionState, Stop};
+use execution::Stop;
 use ids::{ColumnId, Lane};
 use instr::Entries;
 use lanes::View;
 use mask::Mask;
 use predicted_index::{Slot, Sought};
+pub use run::Execution;
+use tables::Rows;
 
 // Which row is asked for: of which table, and the write values of a new one.
 #[derive(Clone, Copy)]
@@ -39,32 +43,25 @@ pub struct Asking {
 
 // A new row, whose place the index takes up in the free slot; whether it was made.
 #[tactic(auto, using(execution::specs::ExecutionLaws::staged_taken), unfolding(crate::specs::Predict::inserted))]
-fn insert(
-    view: View,
-    lane: Lane,
-    want: Keyed,
-    slot: usize,
-    s: &mut ExecutionState,
-    log: &mut [u32],
-    index: &mut [u32],
-) -> bool
-    requires { Short want.row.vals × (want.key.count ≤ 16) × Ready s.old log.old index.old × (slot < 8192) }
-    ensures is { as_gotten result s.new log.new index.new
+fn insert(view: View, lane: Lane, want: Keyed, slot: usize, run: &mut Execution) -> bool
+    requires { Short want.row.vals × (want.key.count ≤ 16) × (slot < 8192) }
+    ensures is { as_gotten result run.new
         ≡ inserted view.entry.words.now view.entry.bindings.now lane.0 want.row want.key slot
-        (as_held s.old log.old index.old) }
-    ensures fits { s.new.used ≤ length log.old }
+        (as_held run.old) }
+    ensures same { SameWords run.old run.new }
 {
     let row = want.row;
-    let Some(b) = build::build(view, lane, want.key, row.vals, s.counters) else {
-        s.stop_for(Some(Stop::Spent));
+    let state = &mut run.state;
+    let Some(b) = build::build(view, lane, want.key, row.vals, state.counters) else {
+        state.stop_for(Some(Stop::Spent));
         return false;
     };
-    let place = s.used;
-    s.counters = b.counters;
-    s.stage(2, row.of.table, &b.row.vals[..b.row.count], log);
-    let made = s.going();
+    let place = state.used;
+    state.counters = b.counters;
+    state.stage(2, row.of.table, &b.row.vals[..b.row.count], run.log);
+    let made = state.going();
     if made {
-        predicted_index::insert(index, slot, place);
+        predicted_index::insert(run.index, slot, place);
     }
     made
 }
@@ -75,31 +72,20 @@ pub struct PredictedVals;
 
 impl PredictedVals {
     // The predicted row of the key, else a new one, built by the write values; whether it was made.
-    #[tactic(auto, using(predicted_index::specs::RightLaws::get_below, predicted_index::specs::HomeLaws::home_below, predicted_index::specs::IndexLaws::slot_of_taken), unfolding(crate::specs::Predict::gotten))]
-    pub fn get_or_insert_with(
-        view: View,
-        lane: Lane,
-        want: Keyed,
-        s: &mut ExecutionState,
-        log: &mut [u32],
-        index: &mut [u32],
-    ) -> bool
-        requires { Short want.row.vals × (want.row.of.info.keys ≤ 16) × (want.key.count ≤ 16)
-            × Ready s.old log.old index.old }
-        ensures is { as_gotten result s.new log.new index.new
+    #[tactic(auto, using(predicted_index::specs::RightLaws::get_below, predicted_index::specs::HomeLaws::home_below), unfolding(crate::specs::Predict::gotten))]
+    pub fn get_or_insert_with(view: View, lane: Lane, want: Keyed, run: &mut Execution) -> bool
+        requires { Short want.row.vals × (want.row.of.info.keys ≤ 16) × (want.key.count ≤ 16) }
+        ensures is { as_gotten result run.new
             ≡ gotten view.entry.words.now view.entry.bindings.now lane.0 want.row want.key
-            (as_held s.old log.old index.old) }
-        ensures fits { s.new.used ≤ length log.old }
+            (as_held run.old) }
+        ensures same { SameWords run.old run.new }
     {
-        let of = want.row.of;
-        // lent from a copy, so that the call does not keep all of `want` in memory
-        let vals = want.key.vals;
-        match predicted_index::get(index, log, of.table, &vals[..of.info.keys]) {
+        match run.get(want.row.of, want.key) {
             Slot::Hit(_) => false,
-            Slot::Free(slot) => insert(view, lane, want, slot, s, log, index),
+            Slot::Free(slot) => insert(view, lane, want, slot, run),
             // never so: a log has room for 5461 rows at most
             Slot::Full => {
-                s.stop_for(Some(Stop::Full));
+                run.state.stop_for(Some(Stop::Full));
                 false
             }
         }
@@ -107,13 +93,20 @@ impl PredictedVals {
 }
 
 // The lane's word, a column of the row that the key has.
-fn take(view: View, ask: Asking, key: Args, lane: Lane, log: &[u32], index: &[u32], out: &mut [u32])
-    requires { Searchable view.words.now view.chains.now ask.row.of × (lane.0 < length out.old) }
-    ensures { out.new ≡ taken_word view.entry.words.now ask key.vals lane.0 log.now index.now out.old }
+fn take(view: View, ask: Asking, key: Args, lane: Lane, run: &Execution, out: &mut [u32; 256])
+    requires { Searchable view.words.now view.chains.now ask.row.of × (lane.0 < 256) }
+    ensures { out.new ≡ taken_word view.entry.words.now ask key.vals lane.0 run.now.log.now run.now.index.now out.old }
 {
-    // lent from a copy, as above
+    // lent from a copy, so that the call does not keep all of `key` in memory
     let vals = key.vals;
-    let row = predicted_index::row_of(view.words, log, view.chains, index, ask.row.of, &vals);
+    let row = predicted_index::row_of(
+        view.words,
+        run.log,
+        view.chains,
+        run.index,
+        ask.row.of,
+        &vals,
+    );
     out[lane.0] = words::word(row, ask.col.0 as usize);
 }
 
@@ -124,78 +117,57 @@ fn serve_lane(
     ask: Asking,
     mask: &Mask,
     lane: Lane,
-    s: &mut ExecutionState,
-    log: &mut [u32],
-    index: &mut [u32],
-    out: &mut [u32],
+    run: &mut Execution,
+    out: &mut [u32; 256],
 )
     requires { Searchable view.words.now view.chains.now ask.row.of × Short ask.key × Short ask.row.vals
-        × Ready s.old log.old index.old × (lane.0 < 256) × (length out.old ≡ 256) }
-    ensures is { as_served s.new log.new index.new out.new
+        × (lane.0 < 256) }
+    ensures is { as_served run.new out.new
         ≡ served_lane view.entry.words.now view.entry.bindings.now ask (get_or mask.now.live lane.0 false) lane.0
-        (as_served s.old log.old index.old out.old) }
-    ensures fits { s.new.used ≤ length log.old }
+        (as_served run.old out.old) }
+    ensures same { SameWords run.old run.new }
 {
-    if mask.live[lane.0] & s.going() {
+    if mask.live[lane.0] & run.state.going() {
         let key = view.fetch(ask.key, lane);
         let want = Keyed { row: ask.row, key };
-        PredictedVals::get_or_insert_with(view, lane, want, s, log, index);
-        if s.going() {
-            take(view, ask, key, lane, log, index, out);
+        PredictedVals::get_or_insert_with(view, lane, want, run);
+        if run.state.going() {
+            take(view, ask, key, lane, run, out);
         }
     }
 }
 
 // Each lane of the mask is served, ascending, until a counter is spent or the log is full.
-pub fn serve_lanes(
-    view: View,
-    ask: Asking,
-    mask: Mask,
-    s: &mut ExecutionState,
-    log: &mut [u32],
-    index: &mut [u32],
-    out: &mut [u32],
-)
-    requires { Searchable view.words.now view.chains.now ask.row.of × Short ask.key × Short ask.row.vals
-        × Ready s.old log.old index.old × (length out.old ≡ 256) }
-    ensures is { as_served s.new log.new index.new out.new
+pub fn serve_lanes(view: View, ask: Asking, mask: Mask, run: &mut Execution, out: &mut [u32; 256])
+    requires { Searchable view.words.now view.chains.now ask.row.of × Short ask.key × Short ask.row.vals }
+    ensures is { as_served run.new out.new
         ≡ served_lanes view.entry.words.now view.entry.bindings.now ask mask.live
-        (as_served s.old log.old index.old out.old) }
-    ensures fits { s.new.used ≤ length log.old }
+        (as_served run.old out.old) }
+    ensures same { SameWords run.old run.new }
 {
     for i in 0..mask.end() {
-        serve_lane(view, ask, &mask, Lane(i), s, log, index, out);
+        serve_lane(view, ask, &mask, Lane(i), run, out);
     }
 }
 
 // A key without a committed row has a predicted one afterwards: where it had none before, the row is made, and the changed flag set. Whether it was made.
 #[tactic(auto, unfolding(crate::specs::Predict::answered))]
-pub fn predict_val(
-    view: View,
-    want: Keyed,
-    s: &mut ExecutionState,
-    log: &mut [u32],
-    index: &mut [u32],
-) -> bool
-    requires { Searchable view.words.now view.chains.now want.row.of × Short want.row.vals × (want.key.count ≤ 16)
-        × Ready s.old log.old index.old }
-    ensures is { as_gotten result s.new log.new index.new
+pub fn predict_val(view: View, want: Keyed, run: &mut Execution) -> bool
+    requires { Searchable view.words.now view.chains.now want.row.of × Short want.row.vals × (want.key.count ≤ 16) }
+    ensures is { as_gotten result run.new
         ≡ answered view.entry.words.now view.entry.bindings.now want.row want.key
-        (as_held s.old log.old index.old) }
-    ensures fits { s.new.used ≤ length log.old }
+        (as_held run.old) }
+    ensures same { SameWords run.old run.new }
 {
     let of = want.row.of;
-    if hash_index::look_up_among(
-        view.words,
-        view.chains,
-        of.info,
-        of.first,
-        &want.key.vals,
-    ).is_some()
-    {
+    let rows = Rows {
+        words: view.words,
+        info: of.info,
+    };
+    if hash_index::look_up_among(rows, view.chains, of.first, &want.key.vals).is_some() {
         return false;
     }
-    let made = PredictedVals::get_or_insert_with(view, Lane(0), want, s, log, index);
-    s.changed |= made;
+    let made = PredictedVals::get_or_insert_with(view, Lane(0), want, run);
+    run.state.changed |= made;
     made
 }

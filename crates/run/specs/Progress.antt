@@ -8,9 +8,20 @@ use Rattle.predict.specs.Predict.{Gotten}
 use Rattle.action.specs.Run.{Running}
 use Rattle.step.specs.Steps.{ran_batch, asked_row, row_answered}
 use Rattle.step_bodies.specs.Steps.{placed, batch_words, prediction_words}
-use Rattle.run.specs.declared.Progress.{Progress}
+use Rattle.predict.specs.declared.run.Execution.{Execution}
+use Rattle.run.specs.declared.Answered.{Answered}
 
--- what the run keeps, with the memory that it runs in
+-- what the run keeps, how many steps have answered, how many words their bodies have in all, and each
+pub record Progress : Type 0 where
+  pub state : ExecutionState
+  pub done : ℕ
+  pub at : ℕ
+  pub lengths : List ℕ
+
+abbrev pub as_progress : Answered → ExecutionState → Progress
+as_progress p x = record { state = x; done = p.done; at = p.at; lengths = p.lengths }
+
+-- with the memory that it runs in
 pub record Ran : Type 0 where
   pub progress : Progress
   pub bindings : List ℕ
@@ -18,17 +29,20 @@ pub record Ran : Type 0 where
   pub index : List ℕ
   pub answer : List ℕ
 
-abbrev pub as_ran : Progress → (bindings log index answer : List ℕ) → Ran
-as_ran progress bindings log index answer = record { progress = progress; bindings = bindings; log = log; index = index; answer = answer }
+abbrev pub as_ran : Answered → Execution → (bindings answer : List ℕ) → Ran
+as_ran p e bindings answer = record { progress = as_progress p e.state; bindings = bindings; log = e.log.now; index = e.index.now; answer = answer }
 
 -- fewer than 64 steps have answered, of 8483 words each at most
-pub record Early (p : Progress) : Type 0 where
+pub record Early (p : Answered) : Type 0 where
   pub done : p.done < 64
   pub at : p.at ≤ 8483 * 64
 
--- what one step leaves: of the log's n words no more are used, one step more has answered at most, with 8483 words at most
-pub record Within (p q : Progress) (n : ℕ) : Type 0 where
-  pub used : q.state.used ≤ n
+-- a step more has answered, and the words up to `end` are used
+abbrev pub counted : ℕ → Answered → Answered
+counted end p = record { done = p.done + 1; at = end; lengths = set p.lengths p.done (end - p.at) }
+
+-- by one step no more than one answers, with 8483 words at most
+pub record Within (p q : Answered) : Type 0 where
   pub done : q.done ≤ p.done + 1
   pub at : q.at ≤ p.at + 8483
 

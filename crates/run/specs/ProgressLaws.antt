@@ -23,8 +23,7 @@ use Rattle.action.specs.Run.{Running, ran_instr, ran_instrs}
 use Rattle.step.specs.Steps.{IsStep, lane_count, start_batch, rule_of, ran_batch, row_asked, key_asked, row_answered}
 use Rattle.step.specs.StepsLaws.{lane_count_most, batch_facts, prediction_facts}
 use Rattle.step_bodies.specs.Steps.{placed}
-use Rattle.run.specs.declared.Progress.{Progress}
-use Rattle.run.specs.Progress.{Ran, halted, told, body_of, batch_told, row_body, row_told, next_entry, batch_step, prediction_step, ran_next}
+use Rattle.run.specs.Progress.{Progress, Ran, halted, told, body_of, batch_told, row_body, row_told, next_entry, batch_step, prediction_step, ran_next}
 
 -- ## The entry of the next step, by what `first_step` answers
 

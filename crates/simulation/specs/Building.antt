@@ -1,6 +1,6 @@
 -- A row is built in the code as in the machine: the same words, from the same counters.
 use Prim.Native.Nat.{ℕ, zero, suc, ◌+◌, ◌*◌, ◌<◌, ◌≤◌}
-use Rattle.std.specs.Prelude.{◌≡◌, true, false, not, length, take, Option, None, Some, slice_get}
+use Rattle.std.specs.Prelude.{◌≡◌, length, take, Option, None, Some, slice_get}
 use Rattle.std.proofs.Math.Path.{refl, ap}
 use Rattle.std.proofs.Common.{sym, ◌∙◌, subst, add-zero, add-suc, arith, get_or-take, length-append, length-take}
 use mathlib.Core.List.{List, [], ◌∷◌, ◌++◌}

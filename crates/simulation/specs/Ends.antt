@@ -33,8 +33,7 @@ use Rattle.refusal.specs.declared.Refusal.TheVariants.{AnswerFull}
 use Rattle.answer.specs.Layout.{Results, results_of, left_by, assembled, assembled_length, Enough}
 use Rattle.answer.specs.AnswerLaws.{Tabled, Told, committed_tabled, enough, assembled_length_lem, assembled_is}
 use Rattle.answer.specs.Scratch.{scratch_none}
-use Rattle.run.specs.declared.Progress.{Progress}
-use Rattle.run.specs.Progress.{Ran}
+use Rattle.run.specs.Progress.{Progress, Ran}
 use Rattle.simulation.specs.Represents.{machine}
 use Rattle.simulation.specs.Runs.{words_of, RunIs}
 

@@ -37,7 +37,7 @@ use Rattle.build.specs.Build as code
 use Rattle.record_log.specs.RecordLaws.{Sized}
 use Rattle.execution.specs.declared.Stop.TheVariants.{Spent, Full}
 use Rattle.execution.specs.declared.ExecutionState.{ExecutionState}
-use Rattle.execution.specs.Execution.{goes_on, Logged, staged, after_append}
+use Rattle.execution.specs.Execution.{goes_on, Logged, after_append}
 use Rattle.predict.specs.declared.Row.{Row}
 use Rattle.predict.specs.Predict as flat
 use Rattle.predict.specs.Predict.{Held, Gotten, gotten}

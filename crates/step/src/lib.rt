@@ -1,11 +1,11 @@
-// The two kinds of step: a batch runs its rule, a prediction asks for a row. An index of the book's rows is lent as `chains`, or an empty one for none.
+// The two kinds of step: a batch runs its rule, a prediction asks for a row. An index of the book's rows is lent, as `chains` or in a `View`, or an empty one for none.
 #![tactic(auto)]
 
 ghost use Rattle.std.specs.Prelude.{◌≡◌, ◌+◌, ◌*◌, ◌≤◌, ◌<◌, length};
 ghost use Rattle.model.specs.Book.Contents.{first_of, kind_of, table_count};
 ghost use Rattle.model.specs.Laws.Book.{Readable};
 ghost use Rattle.hash_index.specs.Book.{BookIndex};
-ghost use Rattle.predict.specs.Predict.{Ready, as_gotten};
+ghost use Rattle.predict.specs.Predict.{SameWords, as_gotten};
 ghost use Rattle.action.specs.Run.{as_running};
 ghost use Rattle.step.specs.Steps.{IsStep, lane_count, ran_batch, key_asked, asked_row, row_answered};
 
@@ -14,11 +14,10 @@ use args::Args;
 use bindings::Bindings;
 use bound_vars::Bound;
 use contents::Book;
-use execution::ExecutionState;
 use ids::TableId;
 use lanes::View;
 use mask::Mask;
-use predict::{Keyed, Row};
+use predict::{Execution, Keyed, Row};
 use predicted_index::Sought;
 
 // With no columns a batch has one lane.
@@ -34,17 +33,15 @@ pub fn run_batch(
     book: Book,
     chains: &[u32],
     i: usize,
-    s: &mut ExecutionState,
+    run: &mut Execution,
     bindings: &mut [u32],
-    log: &mut [u32],
-    index: &mut [u32],
 ) -> Batch
     requires { BookIndex book.words.now (table_count book.words.now) chains.now
-        × IsStep book.words.now i × (kind_of book.words.now i ≡ 4) × Ready s.old log.old index.old
-        × (length bindings.old ≡ 8192) }
-    ensures is { as_running result s.new bindings.new log.new index.new
-        ≡ ran_batch book.entry.words.now (first_of book.entry.words.now i) s.old log.old index.old }
-    ensures fits { s.new.used ≤ length log.old }
+        × IsStep book.words.now i × (kind_of book.words.now i ≡ 4) × (length bindings.old ≡ 8192) }
+    ensures is { as_running result run.new bindings.new
+        ≡ ran_batch book.entry.words.now (first_of book.entry.words.now i) run.old.state
+        run.old.log.now run.old.index.now }
+    ensures same { SameWords run.old run.new }
 {
     let words = book.words;
     let at = contents::first_of(words, i);
@@ -62,7 +59,7 @@ pub fn run_batch(
         bindings: kept,
         mask: Mask::new(lanes),
     };
-    action::run_instrs(book, chains, rule, &mut batch, s, bindings, log, index);
+    action::run_instrs(book, chains, rule, &mut batch, run, bindings);
     batch
 }
 
@@ -78,19 +75,13 @@ fn key_asked(words: &[u32], i: usize) -> Args
 
 // The prediction of entry i; whether its row was made. Its write values are constants and counters, so what the bindings hold does not matter.
 #[tactic(auto, unfolding(crate::specs::Steps::asked_row))]
-pub fn run_prediction(
-    view: View,
-    i: usize,
-    s: &mut ExecutionState,
-    log: &mut [u32],
-    index: &mut [u32],
-) -> bool
+pub fn run_prediction(view: View, i: usize, run: &mut Execution) -> bool
     requires { Readable view.words.now × BookIndex view.words.now (table_count view.words.now) view.chains.now
-        × IsStep view.words.now i × (kind_of view.words.now i ≡ 5) × Ready s.old log.old index.old }
-    ensures is { as_gotten result s.new log.new index.new
-        ≡ asked_row view.entry.words.now view.entry.bindings.now (first_of view.entry.words.now i) s.old
-        log.old index.old }
-    ensures fits { s.new.used ≤ length log.old }
+        × IsStep view.words.now i × (kind_of view.words.now i ≡ 5) }
+    ensures is { as_gotten result run.new
+        ≡ asked_row view.entry.words.now view.entry.bindings.now (first_of view.entry.words.now i)
+        run.old.state run.old.log.now run.old.index.now }
+    ensures same { SameWords run.old run.new }
 {
     let words = view.words;
     let at = contents::first_of(words, i);
@@ -103,7 +94,7 @@ pub fn run_prediction(
         row,
         key: key_asked(words, i),
     };
-    predict::predict_val(view, want, s, log, index)
+    predict::predict_val(view, want, run)
 }
 
 // The row that it answers, where it stands by now.

@@ -35,7 +35,7 @@ run_next-requires c =
     let q = c.requires in
     let l = c.loop in
     let x = here (goal.at.run_next-requires c).In-loop (many_is (goal.at.run_next-requires c).After-size_at-n) in
-    (c.args.book.readable, q.0, small_here x, stands_here x, record { used = omega arith; short = omega (arith, q.2.short); slots = l.auto.index ∙ q.2.slots }, l.auto.bindings ∙ q.3)
+    (q.0, small_here x, stands_here x, l.auto.bindings ∙ q.2)
 
 pub next-p-requires : goal.next-p-requires
 next-p-requires c = small_here (here (goal.at.next-p-requires c).In-loop (many_is (goal.at.next-p-requires c).After-size_at-n))

@@ -1,5 +1,5 @@
 -- The copied words are the first 256 of the column, the cleared ones the rest of its place; the two together are `bound` (`bound_front`).
-use Rattle.std.proofs.Common.{◌≡◌, ℕ, ◌*◌, List, take, length, min, sym, refl, ap, ◌∙◌, arith, take_all, take-take, length-take}
+use Rattle.std.proofs.Common.{◌≡◌, ℕ, List, take, length, min, sym, refl, ◌∙◌, arith, take_all, take-take, length-take}
 use Rattle.std.proofs.Math.Decide.{dec_lt}
 use Rattle.std.proofs.lemmas.Slice.{put_mid-paste}
 use Rattle.bindings.specs.ColumnLaws.{bound_front}

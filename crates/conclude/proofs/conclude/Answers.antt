@@ -4,6 +4,7 @@ use mathlib.Core.Path.{◌∙◌}
 use native.Mathlib.Omega.{arith}
 use Rattle.model.specs.Laws.Book.{few_tables, few_counters, few_rules}
 use Rattle.contents.specs.ContentsLaws.{first_step_is}
+use Rattle.run.specs.Progress.{as_progress}
 use Rattle.conclude.specs.SettleLaws.{concluded_by}
 use Rattle.conclude.proofs.conclude.Goals as goal
 
@@ -21,9 +22,9 @@ settle-requires c =
 pub returns-in-None : goal.returns-in-None
 returns-in-None c =
     let a = c.args in
-    c.settle.ensures ∙ concluded_by a.book.words.now a.p.now a.log.now a.tables.now a.answer.now None c.in-None.is
+    c.settle.ensures ∙ concluded_by a.book.words.now (as_progress a.p.now a.state.now) a.log.now a.tables.now a.answer.now None c.in-None.is
 
 pub returns-in-Some : goal.returns-in-Some
 returns-in-Some c =
     let a = c.args in
-    rw (c.refused.ensures, first_step_is a.book.contained c.first_step.ensures) (concluded_by a.book.words.now a.p.now a.log.now a.tables.now a.answer.now (Some c.in-Some.why) c.in-Some.is)
+    rw (c.refused.ensures, first_step_is a.book.contained c.first_step.ensures) (concluded_by a.book.words.now (as_progress a.p.now a.state.now) a.log.now a.tables.now a.answer.now (Some c.in-Some.why) c.in-Some.is)

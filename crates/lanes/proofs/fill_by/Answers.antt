@@ -1,12 +1,12 @@
 -- After i lanes those that were answered have word and mark (`answered_turn`); past the last live lane nothing is left (`answered_all`).
-use Rattle.std.proofs.Common.{ℕ, ◌≡◌, refl, sym, ap, ◌∙◌, Bool, true, false, List, get_or, set, None, Some, rules, arith}
+use Rattle.std.proofs.Common.{ℕ, ◌≡◌, refl, sym, ◌∙◌, Bool, true, false, List, get_or, set, None, Some, rules, arith}
 use Rattle.std.proofs.lemmas.List.{set-get_or}
 use Rattle.lanes.specs.PassLaws.{answered_none, answered_turn, answered_all}
 use Rattle.lanes.proofs.fill_by.Goals as goal
 use Rattle.lanes.proofs.fill_by.Goals.{then-mask-i+in-Some, then-mask-i+in-None, else-mask-i}
 
 pub loop-i-init : goal.loop-i-init
-loop-i-init g c ask p = answered_none _ _ _ (search rules) c.requires.1
+loop-i-init g c ask p = answered_none _ _ _ (search rules) (search rules)
 
 -- a mark that stays
 stays : (marks : List Bool) (i : ℕ) (b : Bool) → get_or marks i false ≡ b → set marks i b ≡ marks

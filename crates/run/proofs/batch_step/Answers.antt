@@ -14,12 +14,12 @@ few : (c : After-run_batch-batch) → c.run_batch-batch.result.bindings.matches 
 few c =
     let a = c.args in
     let q = c.requires in
-    omega (arith, ap (λ (x : Running). x.batch.bindings.matches) c.run_batch-batch.ensures.is, lanes_most a.book.readable q.1 q.2 a.p.now.state a.log.now a.index.now)
+    omega (arith, ap (λ (x : Running). x.batch.bindings.matches) c.run_batch-batch.ensures.is, lanes_most a.book.readable q.1 q.2 a.run.now.state a.run.now.log.now a.run.now.index.now)
 
 most : (c : After-write_batch-end) → c.run_batch-batch.result.bindings.matches ≤ 256 → c.write_batch-end.result ≤ c.args.p.now.at + 8483
 most c h =
     let r = c.run_batch-batch in
-    omega (arith, c.write_batch-end.ensures.end, batch_most r.result.bindings.matches r.result.bindings.bound.known r.new.bindings h (r.auto.bindings ∙ c.requires.5) r.result.mask.live)
+    omega (arith, c.write_batch-end.ensures.end, batch_most r.result.bindings.matches r.result.bindings.bound.known r.new.bindings h (r.auto.bindings ∙ c.requires.4) r.result.mask.live)
 
 pub write_batch-end-requires : goal.write_batch-end-requires
 write_batch-end-requires c = (search rules, few (goal.at.write_batch-end-requires c).After-run_batch-batch, omega (arith, c.requires.3.at))
@@ -32,4 +32,4 @@ advance-requires c =
 pub returns-then-going-clause-fits : goal.returns-then-going-clause-fits
 returns-then-going-clause-fits c =
     let small = most (goal.at.returns-then-going-clause-fits c).After-write_batch-end (few (goal.at.returns-then-going-clause-fits c).After-run_batch-batch) in
-    rw c.advance.ensures (record { used = c.run_batch-batch.ensures.fits; done = omega arith; at = small })
+    rw c.advance.ensures (record { done = omega arith; at = small })

@@ -14,7 +14,7 @@ run_next-requires c =
     let l = c.loop in
     let k : l.counter < step_count b.words.now = omega (arith, c.loop-test.true, c.step_count-end.ensures, b.contained.steps) in
     let few = few_steps b.words.now b.readable in
-    (q.0, omega arith, record { done = omega arith; at = omega arith }, record { used = omega arith; short = omega (arith, q.3.short); slots = l.auto.index ∙ q.3.slots }, l.auto.bindings ∙ q.4)
+    (q.0, omega arith, record { done = omega arith; at = omega arith }, l.auto.bindings ∙ q.3)
 
 pub returns : goal.returns
 unfolding ran_steps
@@ -23,4 +23,4 @@ returns c =
     let l = c.loop in
     let e : l.counter ≡ step_count b.words.now = omega (arith, c.loop-test.false, c.step_count-end.ensures, b.contained.steps) in
     let few = few_steps b.words.now b.readable in
-    record { is = rw (← e) l.invariant.3; fits = (l.invariant.0, omega arith, omega arith) }
+    record { is = rw (← e) l.invariant.3; fits = (omega arith, omega arith); same = l.invariant.0 }

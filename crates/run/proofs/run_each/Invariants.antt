@@ -1,13 +1,13 @@
 use Prim.Native.Nat.{◌*◌, ◌≤◌}
 use mathlib.Core.Path.{◌≡◌}
-use lib.ListN.{length}
 use Rattle.model.specs.Basics.{iter}
-use Rattle.run.specs.Progress.{Ran, ran_next}
+use Rattle.predict.specs.Predict.{SameWords}
+use Rattle.run.specs.Progress.{ran_next, as_ran}
 use Rattle.run.proofs.run_each.Given as goal
 
 abbrev pub invariant-loop : goal.invariant-loop
 invariant-loop l =
-    (l.p.state.used ≤ length l.initial.log)
+    SameWords l.initial.run l.run
     × (l.p.done ≤ l.counter)
     × (l.p.at ≤ 8483 * l.counter)
-    × (◌≡◌ {A = Ran} (record { progress = l.p; bindings = l.bindings; log = l.log; index = l.index; answer = l.answer }) (iter (λ _. ran_next l.book.words.now) l.counter (record { progress = l.initial.p; bindings = l.initial.bindings; log = l.initial.log; index = l.initial.index; answer = l.initial.answer })))
+    × (as_ran l.p l.run l.bindings l.answer ≡ iter (λ _. ran_next l.book.words.now) l.counter (as_ran l.initial.p l.initial.run l.initial.bindings l.initial.answer))

@@ -9,4 +9,4 @@ predict_val-requires c =
     let q = c.requires in
     let first = c.first_of-at.ensures.0 in
     let n = c.size_at-n.ensures.0 in
-    (rw (c.of.ensures, c.word.ensures, first) (table_here q.0 q.2 q.3 q.1), rw (c.list_at.ensures.is, n, first) (writes_short q.0 q.2 q.3), rw c.key_asked.ensures (prediction_facts q.0 q.2 q.3).keys, q.4)
+    (rw (c.of.ensures, c.word.ensures, first) (table_here q.0 q.2 q.3 q.1), rw (c.list_at.ensures.is, n, first) (writes_short q.0 q.2 q.3), rw c.key_asked.ensures (prediction_facts q.0 q.2 q.3).keys)

@@ -4,7 +4,7 @@ use Rattle.lanes.specs.PassLaws.{answered_none, answered_still, answered_all}
 use Rattle.lanes.proofs.View.fill_entry.Goals as goal
 
 pub loop-i-init : goal.loop-i-init
-loop-i-init c = answered_none _ _ _ (search rules) c.requires
+loop-i-init c = answered_none _ _ _ (search rules) (search rules)
 
 pub loop-i-preserved : goal.loop-i-preserved
 loop-i-preserved c =
