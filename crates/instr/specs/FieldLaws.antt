@@ -1,11 +1,13 @@
 -- Where an instruction's fields stand.
 use Prim.Native.Nat.{ℕ, zero, suc, ◌+◌, ◌*◌, ◌≤◌}
-use Rattle.std.specs.Prelude.{◌≡◌, ◌<◌, get_or, take, length}
-use Rattle.std.proofs.Math.Path.{refl, ap}
+use Rattle.std.specs.Prelude.{◌≡◌, ◌<◌, get_or, take, length, Option, None, Some}
+use Rattle.std.proofs.Math.Path.{refl}
 use Rattle.std.proofs.Common.{take_all}
 use Rattle.std.proofs.lemmas.List.{length-map}
 use mathlib.Core.List.{List, [], ◌∷◌}
 use native.Mathlib.Omega.{arith}
+use Rattle.model.specs.Basics.{found}
+use Rattle.model.specs.Book.Layout as layout
 use Rattle.model.specs.Book.Layout.{Field, table, counter, function, dst, column, divider, entry, entries, writes}
 use Rattle.model.specs.Book.Decode.{after, past}
 use Rattle.model.specs.Book.Read.{sizes}
@@ -14,6 +16,12 @@ use Rattle.instr.specs.declared.layout.Field as code
 use Rattle.instr.specs.Fields.{field_of, fields_of, past_field}
 
 module _ (w : List ℕ) where
+  -- a field more, if there is one
+  past_first : (o : Option layout.Field) (fs : List layout.Field) (q : ℕ) → past w (found o (λ g. g ∷ fs) (λ _. fs)) q ≡ past w fs (found o (λ g. after w g q) (λ _. q))
+  unfolding past
+  past_first None fs q = refl
+  past_first (Some g) fs q = refl
+
   -- one field more
   pub past_more : (fs : List code.Field) (d : code.Field) (k q : ℕ) → k < length fs → past w (take (suc k) (fields_of fs)) q ≡ past_field w (get_or fs k d) (past w (take k (fields_of fs)) q)
   unfolding past

@@ -34,9 +34,9 @@ fn sizes_fit(book: Book, i: Instr) -> bool
             let shape = shapes::of_table(words, table);
             args.count == shape.keys && args.count + default.count == shape.width
         }
-        Instr::LookupWithDefault { table, args, .. } => args.count
-            == shapes::of_table(words, table).keys,
-        Instr::Lookup { table, args, .. } => args.count == shapes::of_table(words, table).keys,
+        Instr::LookupWithDefault { table, args, .. }
+        | Instr::Lookup { table, args, .. }
+        | Instr::Remove { table, args } => args.count == shapes::of_table(words, table).keys,
         Instr::LookupWithFallback {
             table,
             table_key,
@@ -46,9 +46,8 @@ fn sizes_fit(book: Book, i: Instr) -> bool
         } => {
             table_key.count == shapes::of_table(words, table).keys && shapes::takes(func, func_args)
         }
-        Instr::Insert { table, vals } => vals.count == shapes::of_table(words, table).width,
-        Instr::InsertIfEq { table, vals, .. } => vals.count == shapes::of_table(words, table).width,
-        Instr::Remove { table, args } => args.count == shapes::of_table(words, table).keys,
+        Instr::Insert { table, vals } | Instr::InsertIfEq { table, vals, .. } => vals.count
+            == shapes::of_table(words, table).width,
         Instr::External { func, args, .. } => shapes::takes(func, args),
         Instr::ExternalWithFallback {
             f1,
@@ -57,10 +56,8 @@ fn sizes_fit(book: Book, i: Instr) -> bool
             args2,
             ..
         } => shapes::takes(f1, args1) && shapes::takes(f2, args2),
-        Instr::AssertEq(..) => true,
-        Instr::AssertNe(..) => true,
         Instr::AssertAnyNe { ops, divider } => divider <= ops.count,
-        Instr::ReadCounter { .. } => true,
+        Instr::AssertEq(..) | Instr::AssertNe(..) | Instr::ReadCounter { .. } => true,
     }
 }
 
@@ -77,7 +74,6 @@ fn reads_known(words: &[u32], i: Instr, bound: Bound) -> bool
         Instr::LookupWithDefault { args, default, .. } => {
             lists::known(default, bound) && lists::all_known(words, args, bound)
         }
-        Instr::Lookup { args, .. } => lists::all_known(words, args, bound),
         Instr::LookupWithFallback {
             table_key,
             func_args,
@@ -85,18 +81,20 @@ fn reads_known(words: &[u32], i: Instr, bound: Bound) -> bool
         } => {
             lists::all_known(words, table_key, bound) && lists::all_known(words, func_args, bound)
         }
-        Instr::Insert { vals, .. } => lists::all_known(words, vals, bound),
         Instr::InsertIfEq { l, r, vals, .. } => lists::known(l, bound)
             && lists::known(r, bound)
             && lists::all_known(words, vals, bound),
-        Instr::Remove { args, .. } => lists::all_known(words, args, bound),
-        Instr::External { args, .. } => lists::all_known(words, args, bound),
         Instr::ExternalWithFallback { args1, args2, .. } => {
             lists::all_known(words, args1, bound) && lists::all_known(words, args2, bound)
         }
-        Instr::AssertEq(l, r) => lists::known(l, bound) && lists::known(r, bound),
-        Instr::AssertNe(l, r) => lists::known(l, bound) && lists::known(r, bound),
-        Instr::AssertAnyNe { ops, .. } => lists::all_known(words, ops, bound),
+        Instr::AssertEq(l, r) | Instr::AssertNe(l, r) => {
+            lists::known(l, bound) && lists::known(r, bound)
+        }
+        Instr::Lookup { args: list, .. }
+        | Instr::Insert { vals: list, .. }
+        | Instr::Remove { args: list, .. }
+        | Instr::External { args: list, .. }
+        | Instr::AssertAnyNe { ops: list, .. } => lists::all_known(words, list, bound),
         Instr::ReadCounter { .. } => true,
     }
 }
@@ -114,22 +112,26 @@ fn held_free(words: &[u32], i: Instr) -> bool
             dst_var,
             ..
         } => { lists::all_free(words, args, dst_var) && lists::all_free(words, default, dst_var) }
-        Instr::LookupWithDefault { .. } => true,
-        Instr::Lookup { .. } => true,
         Instr::LookupWithFallback {
-            func_args,
-            dst_var,
+            func_args: list,
+            dst_var: dst,
             ..
-        } => { lists::all_free(words, func_args, dst_var) }
-        Instr::Insert { .. } => true,
-        Instr::InsertIfEq { .. } => true,
-        Instr::Remove { .. } => true,
-        Instr::External { .. } => true,
-        Instr::ExternalWithFallback { args2, dst, .. } => lists::all_free(words, args2, dst),
-        Instr::AssertEq(..) => true,
-        Instr::AssertNe(..) => true,
-        Instr::AssertAnyNe { .. } => true,
-        Instr::ReadCounter { .. } => true,
+        }
+        | Instr::ExternalWithFallback {
+            args2: list,
+            dst,
+            ..
+        } => lists::all_free(words, list, dst),
+        Instr::LookupWithDefault { .. }
+        | Instr::Lookup { .. }
+        | Instr::Insert { .. }
+        | Instr::InsertIfEq { .. }
+        | Instr::Remove { .. }
+        | Instr::External { .. }
+        | Instr::AssertEq(..)
+        | Instr::AssertNe(..)
+        | Instr::AssertAnyNe { .. }
+        | Instr::ReadCounter { .. } => true,
     }
 }
 
@@ -151,22 +153,20 @@ fn columns_fit(book: Book, i: Instr) -> bool
             let shape = shapes::of_table(words, table);
             shape.has_column(dst_col) && lists::currents_fit(words, default, shape.keys)
         }
-        Instr::LookupWithDefault { table, dst_col, .. } => {
+        Instr::LookupWithDefault { table, dst_col, .. }
+        | Instr::Lookup { table, dst_col, .. }
+        | Instr::LookupWithFallback { table, dst_col, .. } => {
             shapes::of_table(words, table).has_column(dst_col)
         }
-        Instr::Lookup { table, dst_col, .. } => shapes::of_table(words, table).has_column(dst_col),
-        Instr::LookupWithFallback { table, dst_col, .. } => {
-            shapes::of_table(words, table).has_column(dst_col)
-        }
-        Instr::Insert { .. } => true,
-        Instr::InsertIfEq { .. } => true,
-        Instr::Remove { .. } => true,
-        Instr::External { .. } => true,
-        Instr::ExternalWithFallback { .. } => true,
-        Instr::AssertEq(..) => true,
-        Instr::AssertNe(..) => true,
-        Instr::AssertAnyNe { .. } => true,
-        Instr::ReadCounter { .. } => true,
+        Instr::Insert { .. }
+        | Instr::InsertIfEq { .. }
+        | Instr::Remove { .. }
+        | Instr::External { .. }
+        | Instr::ExternalWithFallback { .. }
+        | Instr::AssertEq(..)
+        | Instr::AssertNe(..)
+        | Instr::AssertAnyNe { .. }
+        | Instr::ReadCounter { .. } => true,
     }
 }
 
