@@ -86,7 +86,7 @@ pub fn serve<R: Read, W: Write>(input: &mut R, output: &mut W) -> Result<(), Fai
     answer_book(output, &buffer[..n])
 }
 
-// Says on standard error what failed, the input under the name given, and why. Where that cannot be written there is nobody left to tell.
+// Says on standard error what failed, the input under the name given, and why. Where that cannot be written, it is dropped.
 pub fn complain(rt: &impl Eprint, name: &str, failure: Failure) {
     let _ = match failure {
         Failure::Input(error) => eprintln!(rt; "{name}: {error}"),
