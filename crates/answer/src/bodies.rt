@@ -26,7 +26,7 @@ fn write_table(
         (table_words words.now counts.now rows.now from table.0) }
     ensures end { result ≡ at + length (table_words words.now counts.now rows.now from table.0) }
 {
-    let t = table.0 as usize;
+    let t = usize::from(table);
     let body = contents::first_of(words, t);
     let n = entries::rows_length(words, counts, table);
     answer[at] = words::word(words, body);

@@ -77,7 +77,7 @@ pub fn rows_length(words: &[u32], counts: &[u32], table: TableId) -> usize
     requires { (table.0 < 16) × (rows_length words.now counts.now table.0 ≤ 16384) }
     ensures { result ≡ rows_length words.now counts.now table.0 }
 {
-    let t = table.0 as usize;
+    let t = usize::from(table);
     let info = tables::info_of(words, table);
     let n = words::size_at(counts, t);
     n * info.width

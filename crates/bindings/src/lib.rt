@@ -14,7 +14,7 @@ use ids::{Lane, Variable};
 pub fn variable(bindings: &[u32], v: Variable, lane: Lane) -> u32
     ensures { result ≡ get_or bindings.now (256 * v.0 + lane.0) 0 }
 {
-    let at = 256 * (v.0 as usize);
+    let at = 256 * usize::from(v);
     let i = lane.0;
     if i < bindings.len() {
         words::word(bindings, at + i)
@@ -78,7 +78,7 @@ fn bind(bindings: &mut [u32], dst: Variable, column: &[u32], lanes: usize)
     requires { 256 * dst.0 + 256 ≤ length bindings.old }
     ensures { bindings.new ≡ bound dst.0 (take lanes column.now) bindings.old }
 {
-    let at = 256 * (dst.0 as usize);
+    let at = 256 * usize::from(dst);
     let front = words::part(column, 0, lanes.min(256));
     let end = at + front.len();
     bindings[at..end].copy_from_slice(front);

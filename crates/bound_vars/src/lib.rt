@@ -26,14 +26,14 @@ impl Bound {
     pub fn has(self, v: Variable) -> bool
         ensures { result ≡ has self v.0 }
     {
-        self.known.get(v.0 as usize).copied().unwrap_or(false)
+        self.known.get(usize::from(v)).copied().unwrap_or(false)
     }
 
     pub fn bind(mut self, v: Variable) -> Self
         requires { v.0 < 32 }
         ensures { result ≡ binding (Some v.0) self }
     {
-        self.known[v.0 as usize] = true;
+        self.known[usize::from(v)] = true;
         self
     }
 

@@ -46,7 +46,7 @@ fn commit_table(log: Log, t: TableId, gone: &mut [u32], rows: &mut [u32], done: 
     removals::keep(log, t, gone, &mut table);
     inserts::insert_rows(log, t, &mut table);
     let part = table.part;
-    done.counts[t.0 as usize] = part.count as u32;
+    done.counts[usize::from(t)] = part.count as u32;
     done.used = part.used;
     done.over = part.over;
 }

@@ -46,14 +46,14 @@ impl Counters {
     pub fn read(self, c: CounterId) -> u32
         ensures { result ≡ get_or self.next c.0 0 }
     {
-        self.next.get(c.0 as usize).copied().unwrap_or(0)
+        self.next.get(usize::from(c)).copied().unwrap_or(0)
     }
 
     // Past the last there is nothing to set.
     pub fn set(mut self, c: CounterId, to: Counter) -> Self
         ensures { result ≡ record { next = set self.next c.0 to.next } }
     {
-        let i = c.0 as usize;
+        let i = usize::from(c);
         if i < 16 {
             self.next[i] = to.next;
         }

@@ -1,6 +1,8 @@
 // Numbers that name something in a book, each of a type of its own, so that one never stands for another.
 #![tactic(auto)]
 
+ghost use Rattle.std.specs.Prelude.{◌≡◌};
+
 // The stale mark: what a variable has in a lane that got no word. No word of a book that is a value may be it.
 pub const STALE: u32 = 4294967295;
 
@@ -27,3 +29,36 @@ pub struct ColumnId(pub u32);
 // A lane of a batch, 0 to 255.
 #[derive(Clone, Copy)]
 pub struct Lane(pub usize);
+
+// What they name is counted from 0, so that each is a place.
+impl From<TableId> for usize {
+    ghost from_gives = { λ id at. at ≡ id.0 };
+
+    fn from(id: TableId) -> usize {
+        id.0 as usize
+    }
+}
+
+impl From<CounterId> for usize {
+    ghost from_gives = { λ id at. at ≡ id.0 };
+
+    fn from(id: CounterId) -> usize {
+        id.0 as usize
+    }
+}
+
+impl From<Variable> for usize {
+    ghost from_gives = { λ id at. at ≡ id.0 };
+
+    fn from(id: Variable) -> usize {
+        id.0 as usize
+    }
+}
+
+impl From<ColumnId> for usize {
+    ghost from_gives = { λ id at. at ≡ id.0 };
+
+    fn from(id: ColumnId) -> usize {
+        id.0 as usize
+    }
+}

@@ -65,7 +65,7 @@ pub fn entry_ask(e: QueryEntry) -> Ask
 fn column(row: &[u32], col: ColumnId) -> Option<u32>
     ensures { result ≡ slice_get row.now col.0 }
 {
-    row.get(col.0 as usize).copied()
+    row.get(usize::from(col)).copied()
 }
 
 // A pass of `fill`: each live lane has the word that `answer` gives it, and is live no more where it gives none. What `answer` is lent is for its arguments. So the families are told apart outside of the loop.

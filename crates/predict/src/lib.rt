@@ -107,7 +107,7 @@ fn take(view: View, ask: Asking, key: Args, lane: Lane, run: &Execution, out: &m
         ask.row.of,
         &vals,
     );
-    out[lane.0] = words::word(row, ask.col.0 as usize);
+    out[lane.0] = words::word(row, usize::from(ask.col));
 }
 
 // A lane of the mask has its word in `out`, unless the run ended.

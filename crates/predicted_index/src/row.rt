@@ -24,7 +24,7 @@ impl Sought {
         Sought {
             table,
             info: tables::info_of(words, table),
-            first: hash_index::rows_before(words, table.0 as usize),
+            first: hash_index::rows_before(words, usize::from(table)),
         }
     }
 }

@@ -17,7 +17,7 @@ impl Shape {
     pub fn has_column(self, col: ColumnId) -> bool
         ensures { result ≡ ltb col.0 self.width }
     {
-        (col.0 as usize) < self.width
+        usize::from(col) < self.width
     }
 }
 
@@ -26,7 +26,7 @@ pub fn of_table(words: &[u32], table: TableId) -> Shape
     ensures is { result ≡ record { keys = keys_of words.now table.0; width = width_of words.now table.0 } }
     ensures small { result.keys < 4294967296 }
 {
-    let first = contents::first_of(words, table.0 as usize);
+    let first = contents::first_of(words, usize::from(table));
     let keys = words::size_at(words, first);
     let values = words::size_at(words, first + 1);
     Shape {

@@ -51,7 +51,7 @@ fn write_column(
     ensures end { result ≡ at + length (column_words bindings.now lanes known v.0) }
 {
     if known {
-        let from = 256 * (v.0 as usize);
+        let from = 256 * usize::from(v);
         answer[at] = v.0;
         return put::write(&bindings[from..from + lanes], at + 1, answer);
     }

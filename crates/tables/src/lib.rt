@@ -34,7 +34,7 @@ pub fn info_at(words: &[u32], body: usize) -> TableInfo
 fn body_of(words: &[u32], t: ids::TableId) -> usize
     ensures { (result ≡ first_of words.now t.0) × (result < 4294967296) }
 {
-    words::size_at(words, 2 + 3 * (t.0 as usize))
+    words::size_at(words, 2 + 3 * usize::from(t))
 }
 
 // The same as `info_at`, of the table with a number.

@@ -18,4 +18,4 @@ returns c =
     let a = c.args in
     let w = c.write.ensures in
     let e = add-sub_cancel_left a.from (rows_length a.words.now a.counts.now a.table.0) in
-    let f = first_of.ensures.0 in record { words = w.words ∙ rw (count.ensures, e, word.ensures, word2.ensures, word3.ensures, word4.ensures, f) (put_four _ _ _ _ (part a.rows.now a.from (rows_length a.words.now a.counts.now a.table.0)) a.answer.now a.at); end = w.end ∙ rw (count.ensures, e) (omega arith) }
+    let f = first_of.ensures.0 in record { words = w.words ∙ rw (count.ensures, e, word.ensures, word2.ensures, word3.ensures, word4.ensures, f, c.from-t.ensures) (put_four _ _ _ _ (part a.rows.now a.from (rows_length a.words.now a.counts.now a.table.0)) a.answer.now a.at); end = w.end ∙ rw (count.ensures, e) (omega arith) }
