@@ -45,8 +45,9 @@ impl Log<'_> {
     // The rows of all records that are some of table t, in the log's order. An empty index is none.
     pub fn insert_all(self, t: TableId, rows: &mut TableRows, index: &mut [u32])
         requires { (rows.old.info ≡ info_of self.words.now t.0) × IndexedRows rows.old.info (rows_of rows.old) index.old }
-        ensures { Leaves rows.old rows.new (inserted self.entry.words.now self.entry.records.now t.0 rows.old.info
+        ensures rows { Leaves rows.old rows.new (inserted self.entry.words.now self.entry.records.now t.0 rows.old.info
             (rows_of rows.old)) }
+        ensures index { index.new ≡ index_for rows.old.info (rows_of rows.new) (length index.old) }
     {
         for p in Places::of(self.words, self.records) {
             insert(self.records, p, t, rows, index);

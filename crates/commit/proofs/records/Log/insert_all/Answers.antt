@@ -43,4 +43,7 @@ pub returns : goal.returns
 unfolding inserted
 returns c =
     let l = c.loop-p in
-    record { same_words = l.invariant.0; same_info = l.invariant.1; rows = walks_end l.invariant.2 c.in-None.ensures.steps }
+    record {
+      rows = record { same_words = l.invariant.0; same_info = l.invariant.1; rows = walks_end l.invariant.2 c.in-None.ensures.steps };
+      index = l.invariant.3;
+    }
