@@ -1,16 +1,21 @@
 -- What the code of the contents leans on: the four parts of an entry's test, and how many of each group were seen.
 use Prim.Native.Nat.{ℕ, zero, suc, ◌+◌, ◌*◌, ◌<◌, ◌≤◌}
-use Rattle.std.specs.Prelude.{◌≡◌, Bool, true, false, ◌&&◌, List, [], ◌∷◌, eqb, ltb, leb, length, get_or, set, None, Some}
+use Rattle.std.specs.Prelude.{◌≡◌, Bool, true, false, cond, ◌&&◌, List, [], ◌∷◌, ◌++◌, eqb, ltb, leb, length, get_or, set, None, Some}
 use Rattle.std.proofs.Math.Path.{refl, ap}
 use Rattle.std.proofs.Common.{sym, ◌∙◌, subst, arith, add-one, get_or-set_same, get_or-set_other}
+use Rattle.std.proofs.lemmas.List.{length-append, map-id}
+use Rattle.std.proofs.lemmas.List.Elements.{filter-append}
+use Rattle.std.proofs.lemmas.List.FromFn.{map-range_with_len_more}
 use Rattle.std.proofs.Math.Bool.{not}
 use borrow.Author.Tests.{lt-ltb, le-ltb, le-leb, lt-leb, eq-eqb, ne_eqb, eqb-true, eqb-false}
 use Rattle.model.specs.Laws.Lists.{none_least, some_least}
+use Rattle.std.specs.List.{filter, range_with_len}
+use Rattle.model.specs.Basics.{how_many, when}
 use Rattle.model.specs.Book.Contents.{group, most, count, group_of, first_of, members, begins, last_group, entry_fits, count_fits, contents_refusal, first_rule, first_step}
 use Rattle.model.specs.Laws.Contents.{members_le}
 use Rattle.contents.specs.declared.Contents.{Contents}
-use Rattle.contents.specs.declared.KindGroup.{KindGroup}
-use Rattle.contents.specs.declared.KindGroup.TheVariants.{Tables, Counters, Rules, Steps}
+use Rattle.contents.specs.declared.kinds.KindGroup.{KindGroup}
+use Rattle.contents.specs.declared.kinds.KindGroup.TheVariants.{Tables, Counters, Rules, Steps}
 use Rattle.contents.specs.Contents.{ContentsOf}
 use Rattle.contents.specs.Kinds.{group_number}
 use Rattle.std.proofs.Math.Dec.{lit<}
@@ -167,6 +172,24 @@ module _ (w : List ℕ) (g i : ℕ) where
 pub none_counted : (w : List ℕ) (g : ℕ) → 0 ≡ members w g 0
 unfolding members
 none_counted w g = refl
+
+one_more : (n : ℕ) → range_with_len 0 (suc n) ≡ range_with_len 0 n ++ (n ∷ [])
+one_more n =
+    let e : suc n ≡ n + 1 = omega arith in
+    ap (range_with_len 0) e ∙ sym (map-id (range_with_len 0 (n + 1))) ∙ map-range_with_len_more (λ x. x) 0 n n (omega arith) ∙ ap (λ (l : List ℕ). l ++ (n ∷ [])) (map-id (range_with_len 0 n))
+
+-- those that pass among the first n numbers
+how_many_pass : (p : ℕ → Bool) (n : ℕ) → length (filter p (range_with_len 0 n)) ≡ how_many p n
+how_many_pass p zero = refl
+how_many_pass p (suc n) = ap (λ (l : List ℕ). length (filter p l)) (one_more n) ∙ rw (filter-append p, length-append, how_many_pass p n) (by (p n))
+  where
+    by : (b : Bool) → how_many p n + length (cond b (n ∷ []) []) ≡ when b suc (how_many p n)
+    by true = omega arith
+    by false = omega arith
+
+pub counted : (w : List ℕ) (g n : ℕ) → length (filter (λ i. eqb (group_of w i) g) (range_with_len 0 n)) ≡ members w g n
+unfolding members
+counted w g n = how_many_pass (λ i. eqb (group_of w i) g) n
 
 -- ## What `first_rule` and `first_step` answer
 

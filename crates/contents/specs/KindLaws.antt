@@ -3,8 +3,8 @@ use Rattle.std.specs.Prelude.{ℕ, zero, suc, ◌<◌, ◌≡◌, None, Some}
 use Rattle.std.proofs.Math.Path.{refl, sym, ap}
 use native.Mathlib.Omega.{arith}
 use Rattle.model.specs.Laws.Logic.{none_some, some_inj}
-use Rattle.contents.specs.declared.Kind.{Kind}
-use Rattle.contents.specs.declared.Kind.TheVariants.{Table, Counter, Rule, Batch, Prediction}
+use Rattle.contents.specs.declared.kinds.Kind.{Kind}
+use Rattle.contents.specs.declared.kinds.Kind.TheVariants.{Table, Counter, Rule, Batch, Prediction}
 use Rattle.contents.specs.Kinds.{kind_by, kind_number}
 
 pub kind_of_number : (k : Kind) → kind_by (kind_number k) ≡ Some k

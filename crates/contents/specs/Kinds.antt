@@ -1,9 +1,9 @@
 -- What the numbers of kinds stand for, and the numbers of groups.
 use Rattle.std.specs.Prelude.{ℕ, zero, suc, Option, None, Some}
-use Rattle.contents.specs.declared.Kind.{Kind}
-use Rattle.contents.specs.declared.Kind.TheVariants.{Table, Counter, Rule, Batch, Prediction}
-use Rattle.contents.specs.declared.KindGroup.{KindGroup}
-use Rattle.contents.specs.declared.KindGroup.TheVariants.{Tables, Counters, Rules, Steps}
+use Rattle.contents.specs.declared.kinds.Kind.{Kind}
+use Rattle.contents.specs.declared.kinds.Kind.TheVariants.{Table, Counter, Rule, Batch, Prediction}
+use Rattle.contents.specs.declared.kinds.KindGroup.{KindGroup}
+use Rattle.contents.specs.declared.kinds.KindGroup.TheVariants.{Tables, Counters, Rules, Steps}
 
 -- the kind of a number
 abbrev pub kind_by : ℕ → Option Kind

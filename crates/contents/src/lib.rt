@@ -1,13 +1,18 @@
 // The contents of a book: refusal 2, and where each body stands.
 #![tactic(auto)]
 
+mod kinds;
+
 ghost use Rattle.std.specs.Prelude.{◌≡◌, ◌&&◌, ◌+◌, ◌*◌, ◌≤◌, ◌<◌, eqb, ltb, leb, length};
 ghost use Rattle.model.specs.Book.Contents as contents;
+ghost use Rattle.model.specs.Book.Contents.{rule_count};
+ghost use Rattle.model.specs.Outcome.{rule_first};
 ghost use Rattle.model.specs.Laws.Book.{Readable};
 ghost use Rattle.contents.specs.Contents.{ContentsOf};
-ghost use Rattle.contents.specs.Kinds.{kind_by, group_by, group_number, number_of};
+ghost use Rattle.contents.specs.Kinds.{kind_by, group_number, number_of};
 ghost use Rattle.refusal.specs.Refusal.{refusal_of};
 
+pub use kinds::{BodyKind, Kind, KindGroup, NoKind};
 use refusal::Refusal;
 
 // How many of each a book has. Their entries stand in this order.
@@ -80,71 +85,23 @@ impl<'a> Book<'a> {
             contents: of(words),
         }
     }
-}
 
-// What a body of a book is.
-#[derive(Clone, Copy, PartialEq, Eq)]
-pub enum Kind {
-    Table,
-    Counter,
-    Rule,
-    Batch,
-    Prediction,
-}
-
-// Entries go by groups of kinds, in this order: batches and predictions, the steps, are one, and each other kind is one of its own.
-#[derive(Clone, Copy, PartialEq, Eq, PartialOrd)]
-pub enum KindGroup {
-    Tables = 1,
-    Counters = 2,
-    Rules = 3,
-    Steps = 4,
-}
-
-impl Kind {
-    // The kind of a number, from 1 on.
-    pub fn of(number: u32) -> Option<Kind>
-        ensures { result ≡ kind_by number }
+    // The first word of rule r.
+    #[tactic(auto, using(model::specs::Laws::Book::few_tables, model::specs::Laws::Book::few_counters, model::specs::Laws::Book::few_rules, crate::specs::ContentsLaws::first_rule_is))]
+    pub fn rule(self, r: usize) -> usize
+        requires { r < rule_count self.words.now }
+        ensures { (result ≡ rule_first self.entry.words.now r) × (result < 4294967296) }
     {
-        match number {
-            1 => Some(Kind::Table),
-            2 => Some(Kind::Counter),
-            3 => Some(Kind::Rule),
-            4 => Some(Kind::Batch),
-            5 => Some(Kind::Prediction),
-            _ => None,
-        }
+        first_of(self.words, self.contents.first_rule() + r)
     }
 
-    pub fn group(self) -> KindGroup
-        ensures { result ≡ group_by self }
+    // The entry of step k.
+    #[tactic(auto, using(model::specs::Laws::Book::few_tables, model::specs::Laws::Book::few_counters, model::specs::Laws::Book::few_rules, crate::specs::ContentsLaws::first_step_is))]
+    pub fn step(self, k: usize) -> usize
+        requires { k ≤ 64 }
+        ensures { (result ≡ contents.first_step self.entry.words.now + k) × (result ≤ 128) }
     {
-        match self {
-            Kind::Table => KindGroup::Tables,
-            Kind::Counter => KindGroup::Counters,
-            Kind::Rule => KindGroup::Rules,
-            Kind::Batch | Kind::Prediction => KindGroup::Steps,
-        }
-    }
-}
-
-impl KindGroup {
-    // Its number, from 1 on.
-    fn number(self) -> usize
-        ensures { (result ≡ group_number self) × (result < 5) }
-    {
-        self as usize
-    }
-
-    // How many entries of the group a book may have.
-    fn most(self) -> u32
-        ensures { result ≡ contents.most (group_number self) }
-    {
-        match self {
-            KindGroup::Tables | KindGroup::Counters => 16,
-            KindGroup::Rules => 32,
-            KindGroup::Steps => 64,
-        }
+        self.contents.first_step() + k
     }
 }
 
@@ -152,7 +109,7 @@ impl KindGroup {
 pub fn group(kind: u32) -> Option<KindGroup>
     ensures { number_of result ≡ contents.group kind }
 {
-    Some(Kind::of(kind)?.group())
+    Some(Kind::try_from(kind).ok()?.group())
 }
 
 // Whether an entry of group g may stand after one of group `last`, as the `seen`-th of its group, with its body at `first` where the body before it ended at `end`.
@@ -164,7 +121,7 @@ fn fits(last: KindGroup, g: KindGroup, seen: u32, first: usize, end: usize) -> b
 
 // The kind of entry i.
 pub fn kind_of(words: &[u32], i: usize) -> u32
-    requires { i < 65536 }
+    requires { i < 4294967296 }
     ensures { result ≡ contents.kind_of words.now i }
 {
     words::word(words, 1 + 3 * i)
@@ -172,41 +129,44 @@ pub fn kind_of(words: &[u32], i: usize) -> u32
 
 // The kind of body i, if its number is one.
 pub fn body_kind(words: &[u32], i: usize) -> Option<Kind>
-    requires { i < 65536 }
+    requires { i < 4294967296 }
     ensures { result ≡ kind_by (contents.kind_of words.now i) }
 {
-    Kind::of(kind_of(words, i))
+    Kind::try_from(kind_of(words, i)).ok()
 }
 
 // The first word of body i.
 pub fn first_of(words: &[u32], i: usize) -> usize
-    requires { i < 65536 }
+    requires { i < 4294967296 }
     ensures { (result ≡ contents.first_of words.now i) × (result < 4294967296) }
 {
     words::size_at(words, 2 + 3 * i)
 }
 
+// How many words body i has.
+pub fn length_of(words: &[u32], i: usize) -> usize
+    requires { i < 4294967296 }
+    ensures { (result ≡ contents.length_of words.now i) × (result < 4294967296) }
+{
+    words::size_at(words, 3 + 3 * i)
+}
+
 // The word past body i.
 pub fn end_of(words: &[u32], i: usize) -> usize
-    requires { i < 65536 }
+    requires { i < 4294967296 }
     ensures { (result ≡ contents.end_of words.now i) × (result < 8589934592) }
 {
-    first_of(words, i) + words::size_at(words, 3 + 3 * i)
+    first_of(words, i) + length_of(words, i)
 }
 
 // How many of the first n entries are of group g.
-#[tactic(auto, using(model::specs::Laws::Contents::members_le), unfolding(model::specs::Book::Contents::members))]
 fn members(words: &[u32], n: usize, g: KindGroup) -> u32
     requires { n ≤ 128 }
     ensures { result ≡ contents.members words.now (group_number g) n }
 {
-    let mut c = 0;
-    for i in 0..n {
-        if group(kind_of(words, i)) == Some(g) {
-            c += 1;
-        }
-    }
-    c
+    (0..n)
+        .filter(|i| group(kind_of(words, *i)) == Some(g))
+        .count() as u32
 }
 
 // The contents of a book whose count is at most 128.
