@@ -4,7 +4,7 @@
 ghost use Rattle.std.specs.Prelude.{◌≡◌, ◌≤◌, ◌<◌};
 ghost use Rattle.args.specs.Args.{pushed, words_at};
 
-// `count` words, the first of 16.
+// `count` words, the first of 16: a fixed array with a count, since there is no heap.
 #[derive(Clone, Copy)]
 pub struct Args {
     pub vals: [u32; 16],

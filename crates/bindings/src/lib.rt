@@ -9,6 +9,7 @@ ghost use Rattle.bindings.specs.Columns.{value_at, fetched, bound, loaded};
 use args::Args;
 use bound_vars::Bound;
 use ids::{Lane, Variable};
+use instr::Entries;
 
 // The word of a variable in a lane, or 0 past the end.
 pub fn variable(bindings: &[u32], v: Variable, lane: Lane) -> u32
@@ -23,7 +24,7 @@ pub fn variable(bindings: &[u32], v: Variable, lane: Lane) -> u32
     }
 }
 
-// What the entry whose tag stands at word p stands for in a lane: a variable, or the number itself. One test tells that both words are there.
+// What the entry whose tag stands at word p stands for in a lane: a variable, or the number itself. It reads the tag itself, as one test tells that both words are there.
 #[tactic(auto, unfolding(crate::specs::Columns::value_at))]
 fn value(words: &[u32], bindings: &[u32], lane: Lane, p: usize) -> u32
     requires { p + 1 < 2 ^ 64 }
@@ -43,34 +44,30 @@ fn value(words: &[u32], bindings: &[u32], lane: Lane, p: usize) -> u32
     0
 }
 
-// What `count` entries stand for in a lane, in place of the first `count` words of `out`; the first entry's tag stands at word `at`.
+// What a list's entries stand for in a lane, in place of as many words at the front of `out`.
 #[tactic(auto, using(words::specs::Filled::filled_none, words::specs::Filled::filled_turn))]
-pub fn fetch_into(
-    words: &[u32],
-    bindings: &[u32],
-    lane: Lane,
-    at: usize,
-    count: usize,
-    out: &mut [u32],
-)
-    requires { (count ≤ length out.old) × (at < 2 ^ 32) }
-    ensures { out.new ≡ filled (λ k. value_at words.now bindings.now lane.0 (at + 2 * k))
-        count out.old }
+pub fn fetch_into(words: &[u32], bindings: &[u32], lane: Lane, list: Entries, out: &mut [u32])
+    requires { (list.count ≤ length out.old) × (list.at < 2 ^ 32) }
+    ensures { out.new ≡ filled (λ k. value_at words.now bindings.now lane.0 (list.at + 2 * k))
+        list.count out.old }
 {
-    for i in 0..count {
-        out[i] = value(words, bindings, lane, at + 2 * i);
+    for i in 0..list.count {
+        out[i] = value(words, bindings, lane, list.place(i));
     }
 }
 
 // The same in a short list of its own.
 #[tactic(auto, unfolding(crate::specs::Columns::fetched))]
-pub fn fetch(words: &[u32], bindings: &[u32], lane: Lane, at: usize, count: usize) -> Args
-    requires { (count ≤ 16) × (at < 2 ^ 32) }
-    ensures { result ≡ fetched words.now bindings.now lane.0 at count }
+pub fn fetch(words: &[u32], bindings: &[u32], lane: Lane, list: Entries) -> Args
+    requires { (list.count ≤ 16) × (list.at < 2 ^ 32) }
+    ensures { result ≡ fetched words.now bindings.now lane.0 list.at list.count }
 {
     let mut vals = [0; 16];
-    fetch_into(words, bindings, lane, at, count, &mut vals);
-    Args { vals, count }
+    fetch_into(words, bindings, lane, list, &mut vals);
+    Args {
+        vals,
+        count: list.count,
+    }
 }
 
 // The first `lanes` words of `column` become the column of dst, and zero the rest of it.
@@ -106,8 +103,8 @@ pub struct Bindings {
 
 impl Bindings {
     // The lanes' words of `column` become the column of a variable, which is bound then.
-    pub fn insert(self, var: Variable, column: &[u32], columns: &mut [u32]) -> Self
-        requires { (var.0 < 32) × (length columns.old ≡ 8192) }
+    pub fn insert(self, var: Variable, column: &[u32], columns: &mut [u32; 8192]) -> Self
+        requires { var.0 < 32 }
         ensures kept { result ≡ bound_in (Some var.0) self }
         ensures columns { columns.new ≡ bound var.0 (take self.matches column.now) columns.old }
     {

@@ -18,13 +18,6 @@ pub struct Building {
     pub counters: Counters,
 }
 
-// What the row has at a place, 0 past its 16 words.
-fn current(row: Args, x: usize) -> u32
-    ensures { result ≡ get_or row.vals x 0 }
-{
-    row.vals.get(x).copied().unwrap_or(0)
-}
-
 // With one write value more, unless that is the next number of a counter that is spent.
 #[tactic(auto, unfolding(crate::specs::Build::written))]
 fn write(view: View, lane: Lane, v: WriteVal, b: &mut Building) -> Option<()>
@@ -33,7 +26,7 @@ fn write(view: View, lane: Lane, v: WriteVal, b: &mut Building) -> Option<()>
     let x = match v {
         WriteVal::QueryEntry(e) => view.value(e, lane),
         WriteVal::IncCounter(c) => b.counters.inc(c)?,
-        WriteVal::CurrentVal(x) => current(b.row, x),
+        WriteVal::CurrentVal(x) => words::word(&b.row.vals, x),
     };
     b.row.push(x);
     Some(())
@@ -53,7 +46,7 @@ pub fn build(
 {
     let mut b = Building { row: key, counters };
     for k in 0..vals.count {
-        let v = instr::write_at(view.words, vals.at + 2 * k);
+        let v = instr::write_at(view.words, vals.place(k));
         write(view, lane, v, &mut b)?;
     }
     Some(b)

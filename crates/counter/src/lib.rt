@@ -5,7 +5,7 @@ ghost use Rattle.std.specs.Prelude.{◌≡◌, get_or, set, option_map};
 ghost use Rattle.model.specs.Machine.Values.{draw};
 ghost use Rattle.counter.specs.Counter.{drawn_of, raised, after_draw};
 
-use ids::CounterId;
+use ids::{CounterId, STALE};
 
 #[derive(Clone, Copy)]
 pub struct Counter {
@@ -13,12 +13,12 @@ pub struct Counter {
 }
 
 impl Counter {
-    // Its next, with the counter past it. A next comes up to 4294967294, the last number before the stale mark; then the counter is spent.
+    // Its next, with the counter past it. A next comes up to the last number before the stale mark; then the counter is spent.
     pub fn inc(self) -> Option<(u32, Counter)>
         ensures { drawn_of result ≡ draw self.next }
     {
         let next = self.next;
-        if next < 4294967294 {
+        if next < STALE - 1 {
             Some((next, Counter { next: next + 1 }))
         } else {
             None

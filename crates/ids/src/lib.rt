@@ -30,7 +30,7 @@ pub struct ColumnId(pub u32);
 #[derive(Clone, Copy)]
 pub struct Lane(pub usize);
 
-// What they name is counted from 0, so that each is a place.
+// What they name is counted from 0, so that each is a place. Each type has an impl of its own, since one that a macro writes cannot say what it gives.
 impl From<TableId> for usize {
     ghost from_gives = { λ id at. at ≡ id.0 };
 

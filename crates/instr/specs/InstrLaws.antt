@@ -11,8 +11,9 @@ use Rattle.instr.specs.Fields.{part_at}
 use Rattle.instr.specs.Instr.{entry_by, write_by, entry_at, write_at, made, no_instr, instr_by, instr_at}
 use Rattle.instr.specs.declared.layout.Part.{Part}
 use Rattle.instr.specs.declared.Instr.{Instr}
+use Rattle.instr.specs.declared.QueryEntry.{QueryEntry}
 use Rattle.instr.specs.declared.QueryEntry.TheVariants.{Const}
-use Rattle.instr.specs.declared.WriteVal.TheVariants.{CurrentVal}
+use Rattle.instr.specs.declared.WriteVal.TheVariants.{QueryEntry as Entry, CurrentVal}
 use Rattle.instr.specs.Meaning.{entry_of, write_of, instr_of}
 
 pub entry_by_lem : (t x : ℕ) → entry_of (entry_by t x) ≡ decode.entry_of t x
@@ -40,6 +41,13 @@ write_rest zero x a b c = absurd (a refl)
 write_rest (suc zero) x a b c = absurd (b refl)
 write_rest (suc (suc zero)) x a b c = absurd (c refl)
 write_rest (suc (suc (suc t))) x a b c = refl
+
+-- tags 0 and 1 are an entry's
+pub write_entry : (t x : ℕ) (e : QueryEntry) → t < 2 → e ≡ entry_by t x → Entry e ≡ write_by t x
+unfolding write_by entry_by
+write_entry zero x e h is = ap Entry is
+write_entry (suc zero) x e h is = ap Entry is
+write_entry (suc (suc t)) x e h is = absurd (omega arith)
 
 -- none of 1 .. n
 abbrev pub NoneOf : ℕ → ℕ → Type 0

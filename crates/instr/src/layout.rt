@@ -36,7 +36,7 @@ pub struct Parts {
     pub next: usize,
 }
 
-// The fields of an instruction by its opcode.
+// The fields of an instruction by its opcode. Opcodes are matched as numbers, as functions are by theirs.
 #[tactic(auto, unfolding(model::specs::Book::Layout::form_of, model::specs::Basics::tab))]
 pub fn fields(op: u32) -> &'static [Field]
     ensures all { fields_of result.now ≡ (layout.form_of op).fields }

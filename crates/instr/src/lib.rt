@@ -3,7 +3,7 @@
 
 pub mod layout;
 
-ghost use Rattle.std.specs.Prelude.{◌≡◌, ◌+◌, ◌≤◌, ◌<◌};
+ghost use Rattle.std.specs.Prelude.{◌≡◌, ◌+◌, ◌*◌, ◌^◌, ◌≤◌, ◌<◌};
 ghost use Rattle.model.specs.Book.Decode as decode;
 ghost use Rattle.instr.specs.Instr as specs;
 ghost use Rattle.instr.specs.Stands.{binds_of, variable_of};
@@ -31,6 +31,16 @@ pub enum WriteVal {
 pub struct Entries {
     pub at: usize,
     pub count: usize,
+}
+
+impl Entries {
+    // Where the tag of entry k stands.
+    pub fn place(self, k: usize) -> usize
+        requires { self.at + 2 * k < 2 ^ 64 }
+        ensures { result ≡ self.at + 2 * k }
+    {
+        self.at + 2 * k
+    }
 }
 
 #[derive(Clone, Copy)]
@@ -143,7 +153,7 @@ pub fn entry_at(words: &[u32], p: usize) -> QueryEntry
 }
 
 // The write value whose tag stands at p.
-#[tactic(auto, unfolding(crate::specs::Instr::write_by))]
+#[tactic(auto, using(crate::specs::InstrLaws::write_entry), unfolding(crate::specs::Instr::write_by))]
 pub fn write_at(words: &[u32], p: usize) -> WriteVal
     requires { p ≤ 1099511627776 }
     ensures { result ≡ specs.write_at words.now p }
@@ -151,8 +161,7 @@ pub fn write_at(words: &[u32], p: usize) -> WriteVal
     let tag = words::word(words, p);
     let x = words::word(words, p + 1);
     match tag {
-        0 => WriteVal::QueryEntry(QueryEntry::Var(Variable(x))),
-        1 => WriteVal::QueryEntry(QueryEntry::Const(x)),
+        0 | 1 => WriteVal::QueryEntry(entry_of(tag, x)),
         2 => WriteVal::IncCounter(CounterId(x)),
         _ => WriteVal::CurrentVal(x as usize),
     }
@@ -189,7 +198,7 @@ impl Part {
     }
 }
 
-// The instruction of an opcode by its fields.
+// The instruction of an opcode by its fields. Opcodes are matched as numbers, as functions are by theirs. A book that can be read has no other than these; the last arm is what the definitions give for another.
 #[tactic(auto, unfolding(crate::specs::Instr::instr_by))]
 fn instr_of(op: u32, fields: [Part; 6]) -> Instr
     ensures { result ≡ specs.instr_by fields op }

@@ -2,8 +2,7 @@
 #![tactic(auto)]
 
 ghost use Rattle.std.specs.Prelude.{◌≡◌, ◌+◌, ◌^◌, ◌≤◌, ◌<◌, length};
-ghost use Rattle.model.specs.Book.Contents.{first_of};
-ghost use Rattle.tables.specs.Tables.{info_at, info_of, same_words, Stands, found_row};
+ghost use Rattle.tables.specs.Tables.{info_at, info_of, row_at, same_words, Stands, found_row};
 
 // A table's key count, the words of a row, its merge rule, its row count, and the word of its first row.
 #[derive(Clone, Copy)]
@@ -13,6 +12,16 @@ pub struct TableInfo {
     pub merge: u32,
     pub rows: usize,
     pub at: usize,
+}
+
+impl TableInfo {
+    // The first word of row i.
+    pub fn row_at(self, i: usize) -> usize
+        requires { row_at self i < 2 ^ 64 }
+        ensures { result ≡ row_at self i }
+    {
+        self.at + i * self.width
+    }
 }
 
 // Read from the book's words, where the table's body begins; where no table stands, the numbers mean nothing.
@@ -30,25 +39,18 @@ pub fn info_at(words: &[u32], body: usize) -> TableInfo
     }
 }
 
-// The word at which the body of the table with a number begins.
-fn body_of(words: &[u32], t: ids::TableId) -> usize
-    ensures { (result ≡ first_of words.now t.0) × (result < 4294967296) }
-{
-    words::size_at(words, 2 + 3 * usize::from(t))
-}
-
 // The same as `info_at`, of the table with a number.
 pub fn info_of(words: &[u32], t: ids::TableId) -> TableInfo
     ensures { result ≡ info_of words.now t.0 }
 {
-    info_at(words, body_of(words, t))
+    info_at(words, contents::first_of(words, usize::from(t)))
 }
 
 // How many rows it has.
 pub fn rows_of(words: &[u32], t: ids::TableId) -> usize
     ensures { (result ≡ (info_of words.now t.0).rows) × (result < 4294967296) }
 {
-    words::size_at(words, body_of(words, t) + 3)
+    words::size_at(words, contents::first_of(words, usize::from(t)) + 3)
 }
 
 // Whether the words from `at` on are the key. Compared by place: `starts_with` and `==` of slices take more instructions for the few words of a key.
@@ -77,7 +79,7 @@ impl Rows<'_> {
         let info = self.info;
         let key = &key[..info.keys];
         for i in 0..info.rows {
-            let at = info.at + i * info.width;
+            let at = info.row_at(i);
             if same_words(self.words, at, key) {
                 return Some(at);
             }

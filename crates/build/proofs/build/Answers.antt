@@ -9,7 +9,7 @@ pub returns-in_err-write-clause-is : goal.returns-in_err-write-clause-is
 returns-in_err-write-clause-is c =
     let a = c.args in
     let l = c.loop-k in
-    c.from_residual.ensures ∙ spent_early a.view.bindings.now a.lane.0 a.view.words.now a.key a.vals.at a.vals.count l.k a.counters l.b c.loop-k-test.true l.invariant (rw c.write_at-v.ensures at (sym c.in_err-write.ensures))
+    c.from_residual.ensures ∙ spent_early a.view.bindings.now a.lane.0 a.view.words.now a.key a.vals.at a.vals.count l.k a.counters l.b c.loop-k-test.true l.invariant (rw (c.write_at-v.ensures, c.place.ensures) at (sym c.in_err-write.ensures))
 
 pub returns-clause-is : goal.returns-clause-is
 unfolding built

@@ -15,5 +15,5 @@ returns c =
     elim c.match-v.branch [
       | in-QueryEntry w ↦ rw (c.push.ensures, w.b-is, w.x-is, w.in-QueryEntry.is, w.value-x.ensures) refl
       | in-IncCounter+in_ok-x-in-IncCounter w ↦ rw (c.push.ensures, w.b-is, w.x-is, w.in-IncCounter.is) (handed_next _ _ _ _ w.in_ok-x-in-IncCounter.ensures.number w.in_ok-x-in-IncCounter.ensures.counters)
-      | in-CurrentVal w ↦ rw (c.push.ensures, w.b-is, w.x-is, w.in-CurrentVal.is, w.current-x.ensures) refl
+      | in-CurrentVal w ↦ rw (c.push.ensures, w.b-is, w.x-is, w.in-CurrentVal.is, w.word-x.ensures) refl
     ]

@@ -1,6 +1,7 @@
-use mathlib.Core.Path.{◌≡◌, sym, ◌∙◌}
+use mathlib.Core.Path.{◌≡◌, sym, ap, ◌∙◌}
 use mathlib.Core.Bool.{false}
 use native.Mathlib.Omega.{arith}
+use Rattle.std.specs.Prelude.{Some}
 use Rattle.model.specs.Laws.Logic.{either, le_cases}
 use Rattle.tables.specs.Tables.{same_words, row_at}
 use Rattle.tables.specs.TablesLaws.{found_at, same_taken}
@@ -11,11 +12,13 @@ returns-then-same_words c =
     let a = c.args in
     let l = c.loop-i in
     let here = same_taken a.self.words.now (row_at a.self.info l.i) a.key.now a.self.info.keys c.requires in
-    found_at a.self.words.now a.self.info a.key.now l.i c.loop-i-test.true l.invariant (sym here ∙ sym c.same_words.ensures ∙ c.if-same_words.true)
+    let same = rw c.row_at-at.ensures at c.same_words.ensures in
+    ap Some c.row_at-at.ensures ∙ found_at a.self.words.now a.self.info a.key.now l.i c.loop-i-test.true l.invariant (sym here ∙ sym same ∙ c.if-same_words.true)
 
 pub loop-i-preserved : goal.loop-i-preserved
 loop-i-preserved c j h =
     let a = c.args in
     let l = c.loop-i in
-    let missed : same_words a.self.words.now (row_at a.self.info l.i) a.key.now a.self.info.keys ≡ false = sym (same_taken a.self.words.now (row_at a.self.info l.i) a.key.now a.self.info.keys c.requires) ∙ sym c.same_words.ensures ∙ c.if-same_words.false in
+    let same = rw c.row_at-at.ensures at c.same_words.ensures in
+    let missed : same_words a.self.words.now (row_at a.self.info l.i) a.key.now a.self.info.keys ≡ false = sym (same_taken a.self.words.now (row_at a.self.info l.i) a.key.now a.self.info.keys c.requires) ∙ sym same ∙ c.if-same_words.false in
     either (l.invariant j) (λ (e : j ≡ l.i). rw e missed) (le_cases (omega arith))
