@@ -18,9 +18,9 @@ impl Bound {
     pub fn first(n: usize) -> Self
         ensures { result ≡ first_bound n }
     {
-        let mut known = [false; 32];
-        known[..n.min(32)].fill(true);
-        Bound { known }
+        Bound {
+            known: mask::first_marks(n),
+        }
     }
 
     pub fn has(self, v: Variable) -> bool

@@ -1,7 +1,8 @@
 // Which lanes of a batch are live: a mask by value, with a mark for each of 256 lanes.
 #![tactic(auto)]
 
-ghost use Rattle.std.specs.Prelude.{◌≡◌, false, not, ◌≤◌, set};
+ghost use Rattle.std.specs.Prelude.{◌≡◌, false, not, ◌≤◌, set, ltb};
+ghost use Rattle.model.specs.Basics.{tab};
 ghost use Rattle.model.specs.Machine.Steps.{any_live};
 ghost use Rattle.mask.specs.Masks.{first_lanes, united, without, count, end};
 
@@ -13,14 +14,24 @@ pub struct Mask {
     pub live: [bool; 256],
 }
 
+// N marks, of which the first n are set.
+pub fn first_marks<const N: usize>(n: usize) -> [bool; N]
+    ensures { result ≡ tab (λ i. ltb i n) N }
+{
+    let mut marks = [false; N];
+    marks[..n.min(N)].fill(true);
+    marks
+}
+
 impl Mask {
     // The first `lanes` lanes; with 0, a mask to collect lanes in.
+    #[tactic(auto, unfolding(crate::specs::Masks::first_lanes))]
     pub fn new(lanes: usize) -> Self
         ensures { result.live ≡ first_lanes lanes }
     {
-        let mut live = [false; 256];
-        live[..lanes.min(256)].fill(true);
-        Mask { live }
+        Mask {
+            live: first_marks(lanes),
+        }
     }
 
     // Without a lane.
@@ -50,7 +61,7 @@ impl Mask {
         Mask { live }
     }
 
-    // How many lanes are live.
+    // How many lanes are live. A loop over all marks compiles to fewer instructions than `filter` and `count`.
     pub fn count(self) -> usize
         ensures { result ≡ count self.live }
     {
