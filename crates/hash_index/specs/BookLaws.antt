@@ -1,7 +1,7 @@
 -- The index of a book's rows has those of each of its tables.
-use Rattle.std.specs.Prelude.{◌≡◌, ℕ, zero, suc, ◌+◌, ◌-◌, ◌<◌, ◌≤◌, Bool, true, false, cond, List, replicate, nat_le}
+use Rattle.std.specs.Prelude.{◌≡◌, ℕ, zero, suc, ◌+◌, ◌-◌, ◌<◌, ◌≤◌, Bool, true, false, cond, List, replicate, nat_le, Option, Some, None}
 use Rattle.std.proofs.Math.Path.{refl, sym, ap}
-use Rattle.std.proofs.Common.{◌∙◌, inl, inr, zero-add, add-zero, arith, le-leb}
+use Rattle.std.proofs.Common.{◌∙◌, zero-add, add-zero, arith, le-leb}
 use Rattle.std.proofs.lemmas.Bool.{lt-leb}
 use Rattle.model.specs.Basics.{iter}
 use Rattle.model.specs.Laws.Logic.{either, le_cases}
@@ -40,9 +40,9 @@ unfolding rows_added indexed
 rows_alone w t n = iter_agree (λ i. added (0 + i) (home_in w t i)) (λ i. added i (home_in w t i)) n (replicate 18432 0) (λ i a l. ap (λ (k : ℕ). added k (home_in w t i) a) (zero-add i))
 
 -- a table that has the index alone
-pub among_alone : (w : List ℕ) (t : TableInfo) (index : List ℕ) → IndexOf w t index → IndexAmong w t 0 index
-among_alone w t index (inl e) = inl e
-among_alone w t index (inr q) = inr (record { home = home_in w t; rows = t.rows; few = q.0; small = row_home_below w t; within = omega arith; agree = λ j lt. ap (home_in w t) (zero-add j); is = q.1 })
+pub among_alone : (w : List ℕ) (t : TableInfo) (index : Option (List ℕ)) → IndexOf w t index → IndexAmong w t 0 index
+among_alone w t None q = tt
+among_alone w t (Some x) q = (record { home = home_in w t; rows = t.rows; few = q.0; small = row_home_below w t; within = omega arith; agree = λ j lt. ap (home_in w t) (zero-add j); is = q.1 })
 
 -- ## All tables
 
@@ -96,6 +96,6 @@ module _ (w : List ℕ) where
   book_tails zero = tails_none
   book_tails (suc n) = rows_tails w (info_of w n) (rows_before w n) (rows_of n) (book_indexed w n) (book_tails n)
 
-  pub book_has : (n : ℕ) (index : List ℕ) → BookIndex w n index → (t : ℕ) → t < n → IndexAmong w (info_of w t) (rows_before w t) index
-  book_has n index (inl e) t lt = inl e
-  book_has n index (inr q) t lt = inr (record { home = home_among n; rows = rows_before w n; few = q.0; small = among_below n; within = before_within n t lt; agree = λ j l. among_table n t j lt l; is = q.1 ∙ book_is n })
+  pub book_has : (n : ℕ) (index : Option (List ℕ)) → BookIndex w n index → (t : ℕ) → t < n → IndexAmong w (info_of w t) (rows_before w t) index
+  book_has n None q t lt = tt
+  book_has n (Some x) q t lt = (record { home = home_among n; rows = rows_before w n; few = q.0; small = among_below n; within = before_within n t lt; agree = λ j l. among_table n t j lt l; is = q.1 ∙ book_is n })

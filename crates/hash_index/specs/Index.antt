@@ -1,5 +1,5 @@
 -- The index: heads and tails of the chains by home, and the links of the rows.
-use Rattle.std.specs.Prelude.{◌≡◌, ℕ, zero, suc, ◌+◌, ◌-◌, ◌/◌, ◌<◌, ◌≤◌, Bool, ◌&&◌, ◌⊎◌, List, length, replicate, nat_le, nat_lt, slice_index, slice_set}
+use Rattle.std.specs.Prelude.{◌≡◌, ℕ, zero, suc, ◌+◌, ◌-◌, ◌/◌, ◌<◌, ◌≤◌, Bool, ◌&&◌, List, length, replicate, nat_le, nat_lt, slice_index, slice_set, Option, IfSome}
 use Rattle.model.specs.Basics.{iter, tab}
 use Rattle.tables.specs.declared.TableInfo.{TableInfo}
 use Rattle.tables.specs.Tables.{row_at, same_words}
@@ -34,9 +34,13 @@ unfoldable pub indexed : (ℕ → ℕ) → ℕ → List ℕ
 indexed home n = iter (λ i. added i (home i)) n (replicate 18432 0)
 
 -- the last row of each chain is one of the first n: what adding row n asks for
+abbrev pub TailsBelow : ℕ → List ℕ → Type 0
+TailsBelow n x = (h : ℕ) → h < 1024 → slice_index x (1024 + h) ≤ n
+
+-- and the words are as many as an index has
 pub record Tails (n : ℕ) (x : List ℕ) : Type 0 where
   pub size : length x ≡ 18432
-  pub below : (h : ℕ) → h < 1024 → slice_index x (1024 + h) ≤ n
+  pub below : TailsBelow n x
 
 -- the index has the table's rows, numbered from b on, and perhaps others
 pub record Has (w : List ℕ) (t : TableInfo) (b : ℕ) (index : List ℕ) : Type 0 where
@@ -52,13 +56,13 @@ pub record Has (w : List ℕ) (t : TableInfo) (b : ℕ) (index : List ℕ) : Typ
 unfoldable pub is_row : List ℕ → TableInfo → List ℕ → (b p : ℕ) → Bool
 is_row w t key b p = nat_lt b p && nat_le p (b + t.rows) && same_words w (row_at t (p - 1 - b)) key t.keys
 
--- such an index, or none
-abbrev pub IndexAmong : List ℕ → TableInfo → ℕ → List ℕ → Type 0
-IndexAmong w table b index = (length index ≡ 0) ⊎ Has w table b index
+-- such an index, if there is one
+abbrev pub IndexAmong : List ℕ → TableInfo → ℕ → Option (List ℕ) → Type 0
+IndexAmong w table b index = IfSome index (Has w table b)
 
--- the index of a table's rows alone, or none
-abbrev pub IndexOf : List ℕ → TableInfo → List ℕ → Type 0
-IndexOf w table index = (length index ≡ 0) ⊎ ((table.rows ≤ 16384) × (index ≡ indexed (home_in w table) table.rows))
+-- the index of a table's rows alone, if there is one
+abbrev pub IndexOf : List ℕ → TableInfo → Option (List ℕ) → Type 0
+IndexOf w table index = IfSome index (λ x. (table.rows ≤ 16384) × (x ≡ indexed (home_in w table) table.rows))
 
 -- rows enough for an index to be of use, and no more than it has links for
 abbrev pub serves : ℕ → Bool

@@ -1,13 +1,15 @@
 -- The index holds the chains of its rows.
-use Rattle.std.specs.Prelude.{◌≡◌, ℕ, zero, suc, ◌+◌, ◌<◌, ◌≤◌, Bool, true, false, ◌≢◌, List, length, replicate, ◌==◌, nat_le, slice_index, slice_index_or, slice_set, refl}
+use Rattle.std.specs.Prelude.{◌≡◌, ℕ, zero, suc, ◌+◌, ◌-◌, ◌<◌, ◌≤◌, Bool, true, false, ◌≢◌, List, length, take, drop, replicate, ◌==◌, nat_le, slice_index, slice_index_or, slice_set, refl}
 use Rattle.std.proofs.Math.Path.{sym, subst}
 use Rattle.std.proofs.Common.{ap, ◌∙◌, add-one, arith, length-set, get_or-set_same, get_or-set_other, eqb-true, leb-true}
 use Rattle.std.proofs.Math.Decide.{dec_lt}
 use Rattle.std.proofs.Math.ListN.{length-replicate}
+use Rattle.std.proofs.Math.Nat.{add-sub_cancel_left}
 use Rattle.std.proofs.lemmas.List.{get_or-replicate}
 use Rattle.std.proofs.lemmas.Bool.{eqb-false}
 use Rattle.model.specs.Laws.Logic.{either, le_cases, and_split}
-use Rattle.hash_index.specs.Index.{end_of, added, indexed, Tails, serves}
+use Rattle.hash_index.specs.FoldLaws.{words_at}
+use Rattle.hash_index.specs.Index.{home_of, home_at, end_of, added, indexed, Tails, serves}
 use Rattle.hash_index.specs.Chains.{First, Last, none, some, first_other, first_kept, first_new, first_past, last_other, last_new, last_none}
 
 pub end_head : (last h : ℕ) → last ≡ 0 → h ≡ end_of last h
@@ -19,6 +21,15 @@ end_link (suc l) h n = omega arith
 
 pub serves_few : (rows : ℕ) → serves rows ≡ true → rows ≤ 16384
 serves_few rows e = leb-true rows 16384 (and_split (nat_le 32 rows) (nat_le rows 16384) e).1
+
+-- ## Homes
+
+-- of the first words of a key, and of words among others
+pub home_front : (key : List ℕ) (k : ℕ) → k ≤ length key → home_of (take k key) ≡ home_at key 0 k
+home_front key k h = ap home_of (words_at key 0 k (omega arith))
+
+pub home_part : (w : List ℕ) (at k : ℕ) → at + k ≤ length w → home_of (take (at + k - at) (drop at w)) ≡ home_at w at k
+home_part w at k h = rw (add-sub_cancel_left at k) (ap home_of (words_at w at k h))
 
 -- ## The tails
 

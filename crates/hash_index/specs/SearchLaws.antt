@@ -115,3 +115,7 @@ module _ (w : List ℕ) (t : TableInfo) (key : List ℕ) where
 
     pub has_length : length index ≡ 18432
     has_length = right.size
+
+  -- the same, where the homes by which the index was made are not at hand
+  abbrev pub Searching : ℕ → List ℕ → ℕ → Type 0
+  Searching b index p = ∥ ((has : Has w t b index) × Reached b index has p) ∥₁

@@ -3,13 +3,16 @@
 
 mod all_tables;
 
-ghost use Rattle.std.specs.Prelude.{◌≡◌, ◌+◌, ◌-◌, ◌<◌, ◌≤◌, false, true, length, replicate, slice_index, MatchOption};
+ghost use Rattle.std.specs.Prelude.{◌≡◌, ◌+◌, ◌-◌, ◌<◌, ◌≤◌, false, true, length, replicate, slice_index, MatchOption, option_copied};
 ghost use Rattle.tables.specs.Tables.{row_at, found_row};
 ghost use Rattle.hash_index.specs.Fold.{mixed};
-ghost use Rattle.hash_index.specs.Index.{home_at, home_in, end_of, added, rows_added, indexed, Tails, Has, is_row, IndexAmong, IndexOf, serves};
+ghost use Rattle.hash_index.specs.Index.{home_of, home_in, end_of, added, rows_added, indexed, TailsBelow, Has, is_row, IndexAmong, IndexOf, serves};
 
-pub use all_tables::{build_all, rows_before};
+pub use all_tables::{IndexedBook, build_all, rows_before};
 use tables::Rows;
+
+// How many words an index has: the heads, the tails and 16384 links.
+pub const INDEX_WORDS: usize = 18432;
 
 // A product by an odd number, wrapping at 32 bits: its high bits depend on all bits of the sum.
 pub fn mix(h: u32, x: u32) -> u32
@@ -18,12 +21,11 @@ pub fn mix(h: u32, x: u32) -> u32
     h.wrapping_add(x).wrapping_mul(2654435761)
 }
 
-// The home of the k words at `at`: the high 10 bits of these words, folded.
-pub fn home(words: &[u32], at: usize, k: usize) -> usize
-    requires { at + k ≤ length words.now }
-    ensures { (result ≡ home_at words.now at k) × (result < 1024) }
+// The home of a key: the high 10 bits of its words, folded.
+pub fn home(key: &[u32]) -> usize
+    ensures { (result ≡ home_of key.now) × (result < 1024) }
 {
-    let h = words[at..at + k].iter().fold(0, |h, x| mix(h, *x));
+    let h = key.iter().fold(0, |h, x| mix(h, *x));
     (h / 4194304) as usize
 }
 
@@ -37,8 +39,8 @@ fn end_of(last: usize, h: usize) -> usize
 
 // One row more, of number n and home h, at the end of its chain.
 #[tactic(auto, unfolding(crate::specs::Index::added))]
-pub fn add(index: &mut [u32], n: usize, h: usize)
-    requires { (length index.old ≡ 18432) × (n < 16384) × (h < 1024) × (slice_index index.old (1024 + h) ≤ n) }
+pub fn add(index: &mut [u32; INDEX_WORDS], n: usize, h: usize)
+    requires { (n < 16384) × (h < 1024) × (slice_index index.old (1024 + h) ≤ n) }
     ensures { index.new ≡ added n h index.old }
 {
     let row = (n + 1) as u32;
@@ -48,20 +50,20 @@ pub fn add(index: &mut [u32], n: usize, h: usize)
 }
 
 // All rows of a table, numbered from `first` on.
-#[tactic(auto, using(crate::specs::IndexLaws::tails_more), unfolding(crate::specs::Index::rows_added))]
-pub fn add_rows(rows: Rows, first: usize, index: &mut [u32])
-    requires { (first + rows.info.rows ≤ 16384) × Tails first index.old }
+#[tactic(auto, unfolding(crate::specs::Index::rows_added))]
+pub fn add_rows(rows: Rows, first: usize, index: &mut [u32; INDEX_WORDS])
+    requires { (first + rows.info.rows ≤ 16384) × TailsBelow first index.old }
     ensures { index.new ≡ rows_added rows.entry.words.now rows.entry.info first rows.entry.info.rows index.old }
 {
     let info = rows.info;
     for i in 0..info.rows {
-        let at = info.at + i * info.width;
-        add(index, first + i, home(rows.words, at, info.keys));
+        let at = info.row_at(i);
+        add(index, first + i, home(&rows.words[at..at + info.keys]));
     }
 }
 
 // All rows of a table alone, into an index that is zero.
-pub fn build(rows: Rows, index: &mut [u32])
+pub fn build(rows: Rows, index: &mut [u32; INDEX_WORDS])
     requires { (rows.info.rows ≤ 16384) × (index.old ≡ replicate 18432 0) }
     ensures { index.new ≡ indexed (home_in rows.entry.words.now rows.entry.info) rows.entry.info.rows }
 {
@@ -80,16 +82,25 @@ fn its_row(rows: Rows, first: usize, p: usize, key: &[u32]) -> Option<usize>
     if p <= first || first + info.rows < p {
         return None;
     }
-    let at = info.at + (p - 1 - first) * info.width;
+    let at = info.row_at(p - 1 - first);
     tables::same_words(rows.words, at, &key[..info.keys]).then_some(at)
 }
 
-// The row with the key, as `Rows::find` finds it.
+// A table's rows with an index that has them, numbered from `first` on; or with none, and all rows are looked at.
+#[derive(Clone, Copy)]
+pub struct Indexed<'a, 'i> {
+    pub rows: Rows<'a>,
+    pub index: Option<&'i [u32]>,
+    pub first: usize,
+    ghost indexed: { ∥ IndexAmong rows.words.now rows.info first (option_copied index) ∥₁ },
+}
+
+// The row with the key, as `Rows::find` finds it. A chain is followed by a `while`: the library's `successors` says nothing of how many rows it gives, which `find_map` would ask.
 fn find(rows: Rows, index: &[u32], first: usize, key: &[u32]) -> Option<usize>
-    requires { Has rows.words.now rows.info first index.now × (rows.info.keys ≤ length key.now) }
+    requires { ∥ Has rows.words.now rows.info first index.now ∥₁ × (rows.info.keys ≤ length key.now) }
     ensures { result ≡ found_row rows.entry.words.now rows.entry.info key.now }
 {
-    let mut p = index[home(key, 0, rows.info.keys)] as usize;
+    let mut p = index[home(&key[..rows.info.keys])] as usize;
     while p != 0 {
         if let Some(at) = its_row(rows, first, p, key) {
             return Some(at);
@@ -99,24 +110,30 @@ fn find(rows: Rows, index: &[u32], first: usize, key: &[u32]) -> Option<usize>
     None
 }
 
-// The same, where an empty index is none, and all rows are looked at.
-pub fn look_up_among(rows: Rows, index: &[u32], first: usize, key: &[u32]) -> Option<usize>
-    requires { IndexAmong rows.words.now rows.info first index.now × (rows.info.keys ≤ length key.now) }
-    ensures { result ≡ found_row rows.entry.words.now rows.entry.info key.now }
-{
-    if index.is_empty() {
-        return rows.find(key);
+impl<'a, 'i> Indexed<'a, 'i> {
+    // The rows with an index that has no others.
+    #[tactic(auto, using(crate::specs::BookLaws::among_alone))]
+    pub fn alone(rows: Rows<'a>, index: Option<&'i [u32]>) -> Self
+        requires { IndexOf rows.words.now rows.info (option_copied index) }
+        ensures { (result.rows.words.now ≡ rows.entry.words.now) × (result.rows.info ≡ rows.entry.info) }
+    {
+        Indexed {
+            rows,
+            index,
+            first: 0,
+        }
     }
-    find(rows, index, first, key)
-}
 
-// The same of a table that has the index alone.
-#[tactic(auto, using(crate::specs::BookLaws::among_alone))]
-pub fn look_up(rows: Rows, index: &[u32], key: &[u32]) -> Option<usize>
-    requires { IndexOf rows.words.now rows.info index.now × (rows.info.keys ≤ length key.now) }
-    ensures { result ≡ found_row rows.entry.words.now rows.entry.info key.now }
-{
-    look_up_among(rows, index, 0, key)
+    // The row with the key, as `Rows::find` finds it.
+    pub fn look_up(self, key: &[u32]) -> Option<usize>
+        requires { self.rows.info.keys ≤ length key.now }
+        ensures { result ≡ found_row self.entry.rows.words.now self.entry.rows.info key.now }
+    {
+        match self.index {
+            Some(index) => find(self.rows, index, self.first, key),
+            None => self.rows.find(key),
+        }
+    }
 }
 
 // Whether so many rows are enough for an index to be of use, and no more than it has links for.

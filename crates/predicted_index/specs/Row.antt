@@ -18,8 +18,8 @@ use Rattle.predicted_index.specs.Index.{slot_of}
 abbrev pub sought_in : List ℕ → TableId → Sought
 sought_in w t = record { table = t; info = info_of w t.0; first = rows_before w t.0 }
 
--- what a search may suppose: the table's rows stand in the words, and the index of committed rows has them, or is none
-pub record Searchable (w chains : List ℕ) (of : Sought) : Type 0 where
+-- what a search may suppose: the table's rows stand in the words, and the index of committed rows, if there is one, has them
+pub record Searchable (w : List ℕ) (chains : Option (List ℕ)) (of : Sought) : Type 0 where
   pub stands : Stands w of.info
   pub indexed : IndexAmong w of.info of.first chains
 

@@ -47,6 +47,11 @@ unfolding slot_of probed
 none_sought home [] log t key k n e = refl
 none_sought home (x ∷ ix) log t key k n e = absurd (omega arith)
 
+-- so the row that is sought there is the committed one, or none
+pub row_alone : (home : ℕ → List ℕ → ℕ) (w log : List ℕ) (of : Sought) (key : List ℕ) → row_of home w log [] of key ≡ committed_part w of.info.width (found_row w of.info key) []
+unfolding row_of
+row_alone home w log of key = ap (committed_part w of.info.width (found_row w of.info key)) (none_sought home [] log of.table.0 key of.info.keys of.info.width refl)
+
 module _ (home : ℕ → List ℕ → ℕ) (w : List ℕ) (t : TableId) (known : t.0 < table_count w) (key : List ℕ) where
   abbrev table : Table
   table = table_at (tables w) t.0

@@ -8,7 +8,7 @@ ghost use Rattle.std.specs.Prelude.{◌≡◌, ◌+◌, ◌≤◌, ◌<◌, leng
 ghost use Rattle.predicted_index.specs.Home.{home_of};
 ghost use Rattle.predicted_index.specs.Index.{answers, slot_of, Small};
 
-pub use row::{Sought, row_of};
+pub use row::{Sought, committed, row_of};
 
 // The place of the record that has the key; or the free slot where it belongs; or neither, after all slots.
 #[derive(Clone, Copy)]

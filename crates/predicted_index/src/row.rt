@@ -1,10 +1,12 @@
 // The row of a key, as a part of the words that hold it: of the book's where it is committed, of the log's where it is predicted.
-ghost use Rattle.std.specs.Prelude.{◌≡◌, ◌≤◌, length};
+ghost use Rattle.std.specs.Prelude.{◌≡◌, ◌≤◌, length, option_copied};
+ghost use Rattle.tables.specs.Tables.{found_row};
 ghost use Rattle.predicted_index.specs.Home.{home_of};
 ghost use Rattle.predicted_index.specs.Index.{slot_of};
 ghost use Rattle.predicted_index.specs.Row.{sought_in, Searchable, predicted_part, row_of};
 
 use crate::Slot;
+use hash_index::Indexed;
 use ids::TableId;
 use tables::{Rows, TableInfo};
 
@@ -29,42 +31,51 @@ impl Sought {
     }
 }
 
-// The predicted row with the key, or no words.
-#[tactic(auto, using(crate::specs::RowLaws::none_sought, crate::specs::IndexLaws::slot_of_taken))]
+// The predicted row with the key, or no words: who reads a row does so when it is there.
+#[tactic(auto, using(crate::specs::IndexLaws::slot_of_taken))]
 fn in_log<'a>(log: &'a [u32], index: &[u32], of: Sought, key: &[u32]) -> &'a [u32]
     requires { (of.info.keys ≤ 16) × (of.info.keys ≤ length key.now) }
     ensures { result.now ≡ predicted_part log.now of.info.width
         (slot_of home_of index.now log.now of.table.0 key.now
         of.info.keys) }
 {
-    // No home is worked out for an index that has no rows.
-    if index.is_empty() {
-        return &log[..0];
-    }
     match crate::get(index, log, of.table, &key[..of.info.keys]) {
         Slot::Hit(p) => words::part(log, p + 2, of.info.width),
         Slot::Free(_) | Slot::Full => &log[..0],
     }
 }
 
-// The committed row with the key, else the predicted one, else no words. An index of the committed rows is lent, or an empty one for none; an empty index of the predicted rows finds none.
-#[tactic(auto, unfolding(crate::specs::Row::row_of))]
-pub fn row_of<'a>(
-    words: &'a [u32],
-    log: &'a [u32],
-    chains: &[u32],
-    index: &[u32],
-    of: Sought,
-    key: &[u32],
-) -> &'a [u32]
-    requires { Searchable words.now chains.now of × (of.info.keys ≤ length key.now) }
-    ensures { result.now ≡ row_of home_of words.now log.now index.now of key.now }
+// Where the committed row with the key stands, by an index of the committed rows if there is one.
+pub fn committed(words: &[u32], chains: Option<&[u32]>, of: Sought, key: &[u32]) -> Option<usize>
+    requires { Searchable words.now (option_copied chains) of × (of.info.keys ≤ length key.now) }
+    ensures { result ≡ found_row words.now of.info key.now }
 {
     let rows = Rows {
         words,
         info: of.info,
     };
-    match hash_index::look_up_among(rows, chains, of.first, key) {
+    let table = Indexed {
+        rows,
+        index: chains,
+        first: of.first,
+    };
+    table.look_up(key)
+}
+
+// The committed row with the key, else the predicted one, else no words.
+#[tactic(auto, unfolding(crate::specs::Row::row_of))]
+pub fn row_of<'a>(
+    words: &'a [u32],
+    log: &'a [u32],
+    chains: Option<&[u32]>,
+    index: &[u32],
+    of: Sought,
+    key: &[u32],
+) -> &'a [u32]
+    requires { Searchable words.now (option_copied chains) of × (of.info.keys ≤ length key.now) }
+    ensures { result.now ≡ row_of home_of words.now log.now index.now of key.now }
+{
+    match committed(words, chains, of, key) {
         Some(p) => words::part(words, p, of.info.width),
         None => in_log(log, index, of, key),
     }

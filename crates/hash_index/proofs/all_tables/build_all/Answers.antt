@@ -10,4 +10,4 @@ add_rows-requires c =
     let w = c.args.words.now in
     let l = c.loop-t in
     let i = c.info_of-info.ensures in
-    (rw (i, l.invariant.0) (omega (arith, before_within w c.args.n l.t lt, pre.2)), rw (l.invariant.0, l.invariant.1) (book_tails w l.t))
+    (rw (i, l.invariant.0) (omega (arith, before_within w c.args.n l.t lt, pre.2)), rw (l.invariant.0, l.invariant.1) (book_tails w l.t).below)
