@@ -27,6 +27,10 @@ module _ {w : List ℕ} {z : Sizes} {i : ℕ} (b : BodyAt w z i) where
   pub few : i < 128
   few = omega (arith, b.below, (contents_ok w b.contents).counted.most)
 
+  -- bodies stand past the contents
+  pub after_contents : 0 < first_of w i
+  after_contents = there.after
+
   pub body_bad : bad ≡ walk w i → Some (record { number = 3; place = i }) ≡ body_refusal w i
   unfolding body_refusal
   body_bad e = rw (← e)

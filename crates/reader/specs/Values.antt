@@ -2,11 +2,11 @@
 use Rattle.std.specs.Prelude.{ℕ, ◌≡◌, List, Option, None, Some, Result, Ok, Err}
 use Rattle.model.specs.Book.Scan as spec
 use Rattle.contents.specs.declared.Contents.{Contents}
-use Rattle.reader.specs.declared.scan.Fault.{Fault}
-use Rattle.reader.specs.declared.scan.Fault.TheVariants.{Layout, Absent, Stale}
+use Rattle.reader.specs.declared.walk.Fault.{Fault}
+use Rattle.reader.specs.declared.walk.Fault.TheVariants.{Layout, Absent, Stale}
 use Rattle.reader.specs.declared.scan.Test.{Test}
 use Rattle.reader.specs.declared.scan.Test.TheVariants.{Any, Clean, Below, UpTo, Range}
-use Rattle.reader.specs.declared.scan.Walk.{Walk}
+use Rattle.reader.specs.declared.walk.Walk.{Walk}
 use Rattle.instr.specs.declared.layout.Field.{Field}
 use Rattle.instr.specs.Fields.{field_of}
 
@@ -26,12 +26,22 @@ test_of (Below n) = spec.below n
 test_of (UpTo n) = spec.up_to n
 test_of (Range a b) = spec.tag a b
 
+-- 0 is none: no walk stands at word 0 of the book
+abbrev pub place_of : Option ℕ → ℕ
+place_of None = 0
+place_of (Some p) = p
+
 abbrev pub walk_of : Walk → spec.Scan
-walk_of w = spec.good w.at w.absent w.stale
+walk_of w = spec.good w.at (place_of w.absent) (place_of w.stale)
 
 abbrev pub scan_of : Option Walk → spec.Scan
 scan_of None = spec.bad
 scan_of (Some w) = walk_of w
+
+-- a walk that goes on to the word `next`
+abbrev pub gone_to : (next : ℕ) → Option Walk → spec.Scan
+gone_to next None = spec.bad
+gone_to next (Some w) = spec.good next (place_of w.absent) (place_of w.stale)
 
 -- the calls of a step are a piece of the model's walk
 pub record IsStep (post : Walk → Option Walk → Type 0) (one : spec.Scan → spec.Scan) : Type 0 where

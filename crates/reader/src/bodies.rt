@@ -1,12 +1,14 @@
 // The five kinds of bodies. A walk begins at the body's first word, and has to come out at its end.
 ghost use Rattle.std.specs.Prelude.{◌≡◌, ◌<◌};
+ghost use Rattle.model.specs.Book.Contents as book;
 ghost use Rattle.model.specs.Book.Read as read;
 ghost use Rattle.model.specs.Book.Scan as spec;
 ghost use Rattle.contents.specs.Kinds.{kind_number};
 ghost use Rattle.reader.specs.Values.{scan_of, walk_of, sizes_of};
 
 use crate::scan;
-use crate::scan::{Body, Test, Walk};
+use crate::scan::{Body, Test};
+use crate::walk::Walk;
 use contents::{Contents, Kind};
 
 impl<'a> Body<'a> {
@@ -22,11 +24,7 @@ impl<'a> Body<'a> {
     fn left(self, n: usize, walk: Walk) -> Option<Walk>
         ensures { scan_of result ≡ spec.left self.entry.end n (walk_of walk) }
     {
-        if self.end.checked_sub(walk.at)? == n {
-            Some(walk)
-        } else {
-            None
-        }
+        (self.end.checked_sub(walk.at)? == n).then_some(walk)
     }
 
     // n clean words, and the body ends. Where it does not end there, n may be any number.
@@ -127,7 +125,7 @@ impl<'a> Body<'a> {
 // The walk over body i. One of no kind draws 3.
 #[tactic(auto, using(contents::specs::KindLaws::number_of_kind, crate::specs::BodyLaws::scan_none))]
 pub fn past_body(words: &[u32], sizes: Contents, i: usize) -> Option<Walk>
-    requires { (i < 128) × (sizes_of sizes ≡ read.sizes words.now) }
+    requires { (i < 128) × (0 < book.first_of words.now i) × (sizes_of sizes ≡ read.sizes words.now) }
     ensures { scan_of result ≡ read.walk words.now i }
 {
     let kind = contents::body_kind(words, i)?;

@@ -13,6 +13,7 @@ mod bodies;
 mod instructions;
 mod rows;
 mod scan;
+mod walk;
 
 use contents::{Contents, Kind};
 use refusal::Refusal;
@@ -23,14 +24,12 @@ fn body(words: &[u32], sizes: Contents, i: usize) -> Result<(), Refusal>
     requires { BodyAt words.now (sizes_of sizes) i }
     ensures { refusal_of result ≡ body_refusal words.now i }
 {
-    let Some(walk) = bodies::past_body(words, sizes, i) else {
-        return Err(Refusal::Layout(i));
-    };
-    if walk.absent != 0 {
-        return Err(Refusal::Absent(walk.absent));
+    let walk = bodies::past_body(words, sizes, i).ok_or(Refusal::Layout(i))?;
+    if let Some(place) = walk.absent {
+        return Err(Refusal::Absent(place));
     }
-    if walk.stale != 0 {
-        return Err(Refusal::Stale(walk.stale));
+    if let Some(place) = walk.stale {
+        return Err(Refusal::Stale(place));
     }
     if contents::body_kind(words, i) == Some(Kind::Table) {
         rows::repeated(words, contents::first_of(words, i))

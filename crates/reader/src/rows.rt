@@ -2,36 +2,36 @@
 ghost use Rattle.std.specs.Prelude.{◌≡◌, ℕ, ◌+◌, ◌<◌, ◌≤◌, length};
 ghost use Rattle.model.specs.Book.Read.{is_repeat, rows_refusal};
 ghost use Rattle.tables.specs.Tables.{info_at, RowsStand};
-ghost use Rattle.hash_index.specs.Index.{IndexOf};
 ghost use Rattle.refusal.specs.Refusal.{refusal_of};
 ghost use Rattle.reader.specs.Places.{rows_of, RowAt};
 
+use hash_index::Indexed;
 use refusal::Refusal;
 use tables::Rows;
 
 // Whether the row that begins at `own` has the key of an earlier row.
-fn is_repeat(rows: Rows, index: &[u32], own: usize) -> bool
-    requires { (0 < rows.info.width) × IndexOf rows.words.now rows.info index.now
-        × (own + rows.info.width ≤ length rows.words.now) }
-    ensures { (i : ℕ) → RowAt rows.entry.info i own
-        → result ≡ is_repeat rows.entry.info.keys (rows_of rows.entry.words.now rows.entry.info) i }
+fn is_repeat(table: Indexed, own: usize) -> bool
+    requires { (0 < table.rows.info.width) × (own + table.rows.info.width ≤ length table.rows.words.now) }
+    ensures { (i : ℕ) → RowAt table.entry.rows.info i own
+        → result ≡ is_repeat table.entry.rows.info.keys
+        (rows_of table.entry.rows.words.now table.entry.rows.info) i }
 {
-    match hash_index::look_up(rows, index, &rows.words[own..own + rows.info.keys]) {
-        Some(p) => p < own,
-        None => false,
-    }
+    let rows = table.rows;
+    table
+        .look_up(&rows.words[own..own + rows.info.keys])
+        .is_some_and(|p| p < own)
 }
 
-// The first row of a table that repeats a key, by the table's index or by none.
-fn first_repeat(rows: Rows, index: &[u32]) -> Result<(), Refusal>
-    requires { (0 < rows.info.width) × IndexOf rows.words.now rows.info index.now }
-    ensures { (at : ℕ) → rows.entry.info ≡ info_at rows.entry.words.now at
-        → refusal_of result ≡ rows_refusal rows.entry.words.now at }
+// The first row of a table that repeats a key.
+fn first_repeat(table: Indexed) -> Result<(), Refusal>
+    requires { 0 < table.rows.info.width }
+    ensures { (at : ℕ) → table.entry.rows.info ≡ info_at table.entry.rows.words.now at
+        → refusal_of result ≡ rows_refusal table.entry.rows.words.now at }
 {
-    let info = rows.info;
+    let info = table.rows.info;
     for i in 0..info.rows {
-        let own = info.at + i * info.width;
-        if is_repeat(rows, index, own) {
+        let own = info.row_at(i);
+        if is_repeat(table, own) {
             return Err(Refusal::Repeat(own));
         }
     }
@@ -44,9 +44,9 @@ fn first_indexed(rows: Rows) -> Result<(), Refusal>
     ensures { (at : ℕ) → rows.entry.info ≡ info_at rows.entry.words.now at
         → refusal_of result ≡ rows_refusal rows.entry.words.now at }
 {
-    let mut index = [0u32; 18432];
+    let mut index = [0u32; hash_index::INDEX_WORDS];
     hash_index::build(rows, &mut index);
-    first_repeat(rows, &index)
+    first_repeat(Indexed::alone(rows, Some(&index)))
 }
 
 // Refusal 5 of the table at `at`.
@@ -61,5 +61,5 @@ pub fn repeated(words: &[u32], at: usize) -> Result<(), Refusal>
     if hash_index::serves(rows.info.rows) {
         return first_indexed(rows);
     }
-    first_repeat(rows, &words[..0])
+    first_repeat(Indexed::alone(rows, None))
 }

@@ -1,19 +1,12 @@
 // One walk over a body, word by word: refusals 3, 6 and 4.
-ghost use Rattle.std.specs.Prelude.{◌≡◌, ◌+◌, ◌^◌, ◌<◌, cond};
+ghost use Rattle.std.specs.Prelude.{◌≡◌, ◌^◌, ◌<◌, cond};
 ghost use Rattle.model.specs.Basics.{iter};
 ghost use Rattle.model.specs.Book.Scan as spec;
 ghost use Rattle.reader.specs.Values.{draw_of, fault_of, test_of, walk_of, scan_of, IsStep};
 
+use crate::walk::{Fault, Walk};
 use contents::Contents;
 use ids::STALE;
-
-// What a word draws that does not pass: 3, 6 or 4.
-#[derive(Clone, Copy)]
-enum Fault {
-    Layout,
-    Absent,
-    Stale,
-}
 
 // What a word has to be: anything; not the stale mark, else it draws 4; below a number, else 6; at most a number, or from one to another, else 3.
 #[derive(Clone, Copy)]
@@ -25,14 +18,6 @@ pub enum Test {
     Range(u32, u32),
 }
 
-// The word that a walk stands at, with the first words that drew 6 and 4. There 0 is none, since no body has word 0 of the book. A walk that draws 3 ends, and is `None`.
-#[derive(Clone, Copy)]
-pub struct Walk {
-    pub at: usize,
-    pub absent: usize,
-    pub stale: usize,
-}
-
 // A body that is walked over: its book, how many of each the book has, the body's first word, and the word past it.
 #[derive(Clone, Copy)]
 pub struct Body<'a> {
@@ -40,7 +25,7 @@ pub struct Body<'a> {
     pub sizes: Contents,
     pub first: usize,
     pub end: usize,
-    ghost near: { first < 2 ^ 32 },
+    ghost near: { (0 < first) × (first < 2 ^ 32) },
 }
 
 // Nothing, or a fault where a test does not pass.
@@ -63,45 +48,15 @@ fn drawn(test: Test, x: u32) -> Result<(), Fault>
     }
 }
 
-// The first of the word that drew before, if one did, and the word `at`.
-fn earliest(drawn: usize, at: usize) -> usize
-    ensures { result ≡ spec.earliest drawn at }
-{
-    if drawn == 0 { at } else { drawn }
-}
-
-impl Walk {
-    // Past the word that it stands at, by what that draws, to the word `next`.
-    fn mark(self, drawn: Result<(), Fault>, next: usize) -> Option<Walk>
-        requires { next ≡ self.at + 1 }
-        ensures { scan_of result ≡ spec.mark (draw_of drawn) self.at self.absent self.stale }
-    {
-        match drawn {
-            Ok(()) => Some(Walk { at: next, ..self }),
-            Err(Fault::Layout) => None,
-            Err(Fault::Absent) => Some(Walk {
-                at: next,
-                absent: earliest(self.absent, self.at),
-                ..self
-            }),
-            Err(Fault::Stale) => Some(Walk {
-                at: next,
-                stale: earliest(self.stale, self.at),
-                ..self
-            }),
-        }
-    }
-}
-
 impl<'a> Body<'a> {
     // A walk that begins at the first word.
     pub fn start(self) -> Walk
-        ensures { result ≡ record { at = self.entry.first; absent = 0; stale = 0 } }
+        ensures { walk_of result ≡ spec.good self.entry.first 0 0 }
     {
         Walk {
             at: self.first,
-            absent: 0,
-            stale: 0,
+            absent: None,
+            stale: None,
         }
     }
 
@@ -120,8 +75,10 @@ impl<'a> Body<'a> {
         if self.end <= walk.at {
             return None;
         }
-        let t = cursor::take(self.words, walk.at);
-        walk.mark(drawn(test, t.word), t.next)
+        let taken = cursor::take(self.words, walk.at);
+        let mut walk = walk.note(drawn(test, taken.word))?;
+        walk.at = taken.next;
+        Some(walk)
     }
 
     // A count, `most` at the highest, and as many steps.

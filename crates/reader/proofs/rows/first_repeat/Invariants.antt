@@ -6,4 +6,4 @@ use Rattle.reader.specs.Places.{rows_of}
 use Rattle.reader.proofs.rows.first_repeat.Given as goal
 
 abbrev pub invariant-loop-i : goal.invariant-loop-i
-invariant-loop-i l = (j : ℕ) → j < l.i → false ≡ is_repeat l.rows.info.keys (rows_of l.rows.words.now l.rows.info) j
+invariant-loop-i l = (j : ℕ) → j < l.i → false ≡ is_repeat l.table.rows.info.keys (rows_of l.table.rows.words.now l.table.rows.info) j
