@@ -1,3 +1,4 @@
+pub mod StandsOnce
 pub mod Rules
 pub mod TestLaws
 pub mod RuleLaws

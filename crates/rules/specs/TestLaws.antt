@@ -1,5 +1,5 @@
 -- Tests of lists that stand in the words, one element at a time.
-use Prim.Native.Nat.{ℕ, zero, suc, ◌+◌, ◌*◌, ◌<◌}
+use Prim.Native.Nat.{ℕ, zero, suc, ◌+◌, ◌*◌, ◌<◌, ◌≤◌}
 use Rattle.std.specs.Prelude.{◌≡◌, Bool, true, false, ◌&&◌, map, List, [], ◌∷◌, ◌++◌, length, get_or}
 use Rattle.std.proofs.Math.Path.{refl}
 use Rattle.std.proofs.Common.{sym, ap, ◌∙◌, arith, add-zero, add-suc, suc-add}
@@ -13,6 +13,9 @@ use Rattle.model.specs.Laws.Lists.{length_tab}
 use Rattle.model.specs.Book.Syntax.{QueryEntry, Var, Const, WriteVal, Entry, IncCounter, CurrentVal}
 use Rattle.model.specs.Book.Decode as decode
 use Rattle.model.specs.Check as check
+use Rattle.model.specs.Book.Contents.{table_count}
+use Rattle.model.specs.Laws.Book.{Readable, keys_of}
+use Rattle.model.specs.Laws.Kinds.{table_read}
 use Rattle.instr.specs.declared.Entries.{Entries}
 use Rattle.instr.specs.Meaning.{entries_of, writes_of}
 use Rattle.rules.specs.Rules.{current_fits}
@@ -123,6 +126,10 @@ module _ (w : List ℕ) (l : Entries) where
 
   pub currents_yes : (n : ℕ) → ((k : ℕ) → k < l.count → current_fits (n + k) (decode.write_at w (l.at + 2 * k)) ≡ true) → true ≡ all check.below? (check.currents_of n (writes_of w l))
   currents_yes n h = sym (currents_each n (λ k. decode.write_at w (l.at + 2 * k)) l.count ∙ each_yes _ l.count h)
+
+-- the key count of a table of the book
+pub few_keys : (w : List ℕ) → Readable w → (t : ℕ) → t < table_count w → keys_of w t ≤ 8
+few_keys w h t l = (table_read w h.contents h.bodies t l).1.keys
 
 pub count_entries : (w : List ℕ) (l : Entries) → length (entries_of w l) ≡ l.count
 count_entries w l = length_tab _ l.count

@@ -12,8 +12,8 @@ ghost use Rattle.model.specs.Laws.Book.{Readable};
 mod fit;
 mod instructions;
 mod lists;
-mod shapes;
 
+use crate::instructions::BookInstr;
 use bound_vars::Bound;
 use contents::Book;
 use refusal::Refusal;
@@ -24,15 +24,18 @@ pub fn check_rule(book: Book, r: usize) -> Result<(), Refusal>
     ensures { refusal_of result ≡ outcome.rule_refusal book.entry.words.now r }
 {
     let words = book.words;
-    let first = contents::first_of(words, book.contents.first_rule() + r);
+    let first = book.rule(r);
     let starts = words::size_at(words, first);
     let n = words::size_at(words, first + 1);
     let mut bound = Bound::first(starts);
     let mut p = first + 2;
     for _ in 0..n {
-        let i = instr::instr_at(words, p);
-        instructions::check_instr(book, p, i, bound)?;
-        bound = instructions::bind_dst(i, bound);
+        let i = BookInstr {
+            book,
+            instr: instr::instr_at(words, p),
+        };
+        i.check(p, bound)?;
+        bound = i.bind_dst(bound);
         p = instr::next(words, p);
     }
     Ok(())
@@ -50,13 +53,13 @@ pub fn check_rules(book: Book) -> Result<(), Refusal>
 }
 
 // Refusal 11.
-#[tactic(auto, using(contents::specs::ContentsLaws::first_step_is, model::specs::Laws::Book::step_entry, crate::specs::StepLaws::steps_stop, crate::specs::StepLaws::steps_end))]
+#[tactic(auto, using(model::specs::Laws::Book::few_steps, crate::specs::StepLaws::steps_stop, crate::specs::StepLaws::steps_end))]
 pub fn fit_steps(book: Book) -> Result<(), Refusal>
     ensures { refusal_of result ≡ read.steps_refusal book.entry.words.now }
 {
     for k in 0..book.contents.step_count() {
         if !fit::step_fits(book, k) {
-            return Err(Refusal::Unfit(book.contents.first_step() + k));
+            return Err(Refusal::Unfit(book.step(k)));
         }
     }
     Ok(())

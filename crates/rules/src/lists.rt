@@ -45,7 +45,7 @@ pub fn all_known(words: &[u32], list: Entries, bound: Bound) -> bool
     requires { Short list }
     ensures { result ≡ all (check.known? (has bound)) (entries_of words.now list) }
 {
-    (0..list.count).all(|k| known(instr::entry_at(words, list.at + 2 * k), bound))
+    (0..list.count).all(|k| known(instr::entry_at(words, list.place(k)), bound))
 }
 
 // No variable of a list is dst.
@@ -53,7 +53,7 @@ pub fn all_free(words: &[u32], list: Entries, dst: Variable) -> bool
     requires { Short list }
     ensures { result ≡ all (λ e. check.free? (dst.0, e)) (entries_of words.now list) }
 {
-    (0..list.count).all(|k| free(instr::entry_at(words, list.at + 2 * k), dst))
+    (0..list.count).all(|k| free(instr::entry_at(words, list.place(k)), dst))
 }
 
 // Every current value of a list fits, where the row has n words before the first write value.
@@ -61,5 +61,5 @@ pub fn currents_fit(words: &[u32], list: Entries, n: usize) -> bool
     requires { Short list × (n < 4294967296) }
     ensures { result ≡ all check.below? (check.currents_of n (writes_of words.now list)) }
 {
-    (0..list.count).all(|k| current_fits(instr::write_at(words, list.at + 2 * k), n + k))
+    (0..list.count).all(|k| current_fits(instr::write_at(words, list.place(k)), n + k))
 }
