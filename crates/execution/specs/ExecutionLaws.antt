@@ -3,10 +3,9 @@ use Rattle.std.specs.Prelude.{ℕ, ◌+◌, ◌≤◌, ◌≡◌, refl, Bool, tr
 use Rattle.std.proofs.Common.{ap, leb-true}
 use Rattle.record_log.specs.Log.{record_of, appended, stored}
 use Rattle.record_log.specs.LogLaws.{record_of_taken}
-use Rattle.execution.specs.declared.ExecutionState.{ExecutionState}
-use Rattle.execution.specs.Execution.{Logged, after_append, staged}
+use Rattle.execution.specs.Execution.{RunState, Logged, after_append, staged}
 
-pub append_fits : (log r : List ℕ) (s : ExecutionState) → s.used ≤ length log → (after_append (appended log s.used r) s).used ≤ length log
+pub append_fits : (log r : List ℕ) (s : RunState) → s.used ≤ length log → (after_append (appended log s.used r) s).used ≤ length log
 unfolding appended
 append_fits log r s h = by (leb (s.used + length r) (length log)) refl
   where
@@ -18,7 +17,7 @@ module _ (kind table : ℕ) (row : List ℕ) (n : ℕ) (l : Logged) where
   abbrev rec : List ℕ
   rec = record_of kind table row n
 
-  pub staged_by : (a : Option ℕ) (s : ExecutionState) (log : List ℕ) → a ≡ appended l.log l.state.used rec → s ≡ after_append a l.state → log ≡ stored l.log l.state.used rec → l.state.used ≤ length l.log
+  pub staged_by : (a : Option ℕ) (s : RunState) (log : List ℕ) → a ≡ appended l.log l.state.used rec → s ≡ after_append a l.state → log ≡ stored l.log l.state.used rec → l.state.used ≤ length l.log
       → (◌≡◌ {A = Logged} (record { state = s; log = log }) (staged kind table row n l)) × (s.used ≤ length l.log)
   unfolding staged
   staged_by a s log e q m h = (rw (q, e, m), rw (q, e) (append_fits l.log rec l.state h))

@@ -1,5 +1,7 @@
 pub mod Log
 pub mod LogLaws
+pub mod Append
+pub mod Kinds
 pub mod Walk
 pub mod WalkLaws
 pub mod RecordLaws

@@ -4,26 +4,49 @@
 mod places;
 
 ghost use Rattle.std.specs.Prelude.{◌≡◌, ◌≤◌, length, get_or};
-ghost use Rattle.record_log.specs.Log.{record_of, appended, stored};
+ghost use Rattle.record_log.specs.Log.{record_of};
 ghost use Rattle.record_log.specs.Walk.{change_by, end_of};
 
 use ids::TableId;
 pub use places::Places;
 
-// A record of kind 0 (insert), 1 (removal) or 2 (predicted row), past the words that are used. Nothing is written where it has no room.
-pub fn append(log: &mut [u32], used: usize, kind: u32, table: TableId, row: &[u32]) -> Option<usize>
-    requires { (used ≤ length log.old) × (length row.now ≤ 16) }
-    ensures answer { result ≡ appended log.old used (record_of kind table.0 row.now (length row.now)) }
-    ensures log { log.new ≡ stored log.old used (record_of kind table.0 row.now (length row.now)) }
-{
-    let end = used + 2 + row.len();
-    if log.len() < end {
-        return None;
+// The words lent for the log, and how many of them are used.
+#[derive(Drop)]
+pub struct Log<'a> {
+    pub words: &'a mut [u32],
+    pub used: usize,
+    ghost fits: { used ≤ length words.now },
+}
+
+impl Log<'_> {
+    ghost use Rattle.record_log.specs.Append.{Appends};
+
+    // A record of these words, past those that are used; whether it had room. Nothing is written where it has none. The kind is any number, as the definitions have it; `RecordKind` names those in use.
+    pub fn append(&mut self, kind: u32, table: TableId, row: &[u32]) -> bool
+        requires { length row.now ≤ 16 }
+        ensures { Appends self.old (record_of kind table.0 row.now (length row.now)) result self.new }
+    {
+        let used = self.used;
+        // a slice of its own, so that its place and its length are read once
+        let words = &mut *self.words;
+        let end = used + 2 + row.len();
+        if words.len() < end {
+            return false;
+        }
+        words[used] = kind;
+        words[used + 1] = table.0;
+        words[used + 2..end].copy_from_slice(row);
+        self.used = end;
+        true
     }
-    log[used] = kind;
-    log[used + 1] = table.0;
-    log[used + 2..end].copy_from_slice(row);
-    Some(end)
+}
+
+// The kinds of records, by their numbers: a row goes in, the row with a key goes out, and a row that was predicted goes in.
+#[derive(Clone, Copy, PartialEq, Eq)]
+pub enum RecordKind {
+    Insert = 0,
+    Remove = 1,
+    Predicted = 2,
 }
 
 // What a record does to its table.
