@@ -1,18 +1,25 @@
 -- What the code of the passes leans on.
-use Rattle.std.specs.Prelude.{ℕ, zero, suc, ◌+◌, ◌-◌, ◌*◌, ◌≤◌, ◌<◌, min, ◌≡◌, refl, true, false, List, [], ◌∷◌, length, get_or, take, drop, replicate, Some}
-use Rattle.std.proofs.Common.{sym, ◌∙◌, arith, add-one, length-drop, length-take, get_or-take, get_or-drop, eq-eqb, ne_eqb}
+use Rattle.std.specs.Prelude.{ℕ, zero, suc, ◌+◌, ◌-◌, ◌*◌, ◌≤◌, ◌<◌, min, ◌≡◌, refl, true, false, List, [], ◌∷◌, length, get_or, take, drop, replicate, Option, None, Some, slice_get}
+use Rattle.std.proofs.Common.{sym, ap, ◌∙◌, arith, add-one, length-drop, length-take, get_or-take, get_or-drop, eq-eqb, ne_eqb}
 use Rattle.model.specs.Basics.{tab}
+use Rattle.model.specs.Book.Decode.{part}
 use Rattle.model.specs.Laws.Lists.{length_tab}
 use Rattle.model.specs.Machine.Steps.{any_ne}
 use Rattle.words.specs.Filled.{filled, front_again}
 use Rattle.args.specs.Args.{as_list}
 use Rattle.bindings.specs.Columns.{word_of, value_at, fetched}
 use Rattle.instr.specs.declared.QueryEntry.{QueryEntry}
-use Rattle.instr.specs.declared.QueryEntry.TheVariants as entry
 use Rattle.instr.specs.declared.Entries.{Entries}
 use Rattle.instr.specs.Meaning.{entry_of}
+use Rattle.ids.specs.declared.ColumnId.{ColumnId}
+use Rattle.tables.specs.Tables.{found_row}
+use Rattle.predicted_index.specs.declared.row.Sought.{Sought}
+use Rattle.predicted_index.specs.Home.{home_of}
+use Rattle.predicted_index.specs.Row.{committed_part}
+use Rattle.predicted_index.specs.RowLaws.{row_alone}
 use Rattle.lanes.specs.declared.Ask.{Ask}
-use Rattle.lanes.specs.Lanes.{listed, asked, entry_ask, AskFits}
+use Rattle.lanes.specs.declared.Ask.TheVariants.{Lookup, Entry}
+use Rattle.lanes.specs.Lanes.{listed, asked, AskFits}
 
 -- the front of an array that a list of entries was fetched into, whatever stands behind
 pub listed_words : (w m : List ℕ) (i : ℕ) (l : Entries) (was vals : List ℕ) → vals ≡ filled (λ k. value_at w m i (l.at + 2 * k)) l.count was → take l.count vals ≡ as_list (listed w m i l)
@@ -21,21 +28,37 @@ listed_words w m i l was vals e =
     let f : ℕ → ℕ = λ (k : ℕ). value_at w m i (l.at + 2 * k) in
     rw e (front_again l.count (tab f l.count) was (length_tab f l.count) ∙ sym (front_again l.count (tab f l.count) (replicate 16 0) (length_tab f l.count)))
 
+-- ## A row that is asked for
+
+module _ (w m : List ℕ) (of : Sought) (key : Entries) (col : ColumnId) (i : ℕ) where
+  -- by where it was found
+  abbrev in_row : Option ℕ → Option ℕ
+  in_row None = None
+  in_row (Some p) = slice_get (part w p of.info.width) col.0
+
+  asked_row : asked w m (Lookup of key col) i ≡ in_row (found_row w of.info (listed w m i key).vals)
+  unfolding asked
+  asked_row = ap (λ (r : List ℕ). slice_get r col.0) (row_alone home_of w [] of (listed w m i key).vals) ∙ by (found_row w of.info (listed w m i key).vals)
+    where
+      by : (f : Option ℕ) → slice_get (committed_part w of.info.width f []) col.0 ≡ in_row f
+      by None = refl
+      by (Some p) = refl
+
+  pub asked_none : None ≡ found_row w of.info (listed w m i key).vals → None ≡ asked w m (Lookup of key col) i
+  asked_none e = rw (asked_row, ← e) refl
+
+  pub asked_some : (p : ℕ) → Some p ≡ found_row w of.info (listed w m i key).vals → slice_get (part w p of.info.width) col.0 ≡ asked w m (Lookup of key col) i
+  asked_some p e = rw (asked_row, ← e) refl
+
 -- ## An entry that is asked for
 
-pub asked_entry : (w m : List ℕ) (e : QueryEntry) (i : ℕ) → asked w m (entry_ask e) i ≡ Some (word_of m i (entry_of e))
-unfolding entry_ask asked
-asked_entry w m (entry.Var v) i = refl
-asked_entry w m (entry.Const x) i = refl
+pub asked_entry : (w m : List ℕ) (e : QueryEntry) (i : ℕ) → asked w m (Entry e) i ≡ Some (word_of m i (entry_of e))
+unfolding asked
+asked_entry w m e i = refl
 
 -- it asks for no table
-pub entry_fits_lem : (w chains : List ℕ) (a : Ask) (e : QueryEntry) → a ≡ entry_ask e → AskFits w chains a
-unfolding entry_ask
-entry_fits_lem w chains a e q = rw q (by e)
-  where
-    by : (e : QueryEntry) → AskFits w chains (entry_ask e)
-    by (entry.Var v) = tt
-    by (entry.Const x) = tt
+pub entry_fits_lem : (w : List ℕ) (chains : Option (List ℕ)) (a : Ask) (e : QueryEntry) → a ≡ Entry e → AskFits w chains a
+entry_fits_lem w chains a e q = rw q tt
 
 -- ## Pairs of two lists
 

@@ -1,20 +1,18 @@
 -- What each lane is answered, and whether it passes a test: w is the book's words, m the memory of the bindings.
-use Rattle.std.specs.Prelude.{ℕ, ◌+◌, ◌*◌, ◌≡◌, Bool, true, false, ◌&&◌, not, List, [], eqb, get_or, take, drop, Option, Some, slice_get}
+use Rattle.std.specs.Prelude.{ℕ, ◌≡◌, Bool, true, false, ◌&&◌, not, List, [], eqb, get_or, take, drop, Option, Some, slice_get}
 use Rattle.model.specs.Basics.{found, only, tab}
 use Rattle.model.specs.Machine.Functions.{apply}
 use Rattle.model.specs.Machine.Steps.{any_ne}
 use Rattle.args.specs.declared.Args.{Args}
 use Rattle.args.specs.Args.{as_list}
 use Rattle.bindings.specs.Columns.{word_of, fetched}
-use Rattle.instr.specs.declared.QueryEntry.{QueryEntry}
-use Rattle.instr.specs.declared.QueryEntry.TheVariants as entry
 use Rattle.instr.specs.declared.Entries.{Entries}
 use Rattle.instr.specs.Meaning.{entry_of}
 use Rattle.instr.specs.Stands.{Short}
 use Rattle.predicted_index.specs.Home.{home_of}
 use Rattle.predicted_index.specs.Row.{Searchable, row_of}
 use Rattle.lanes.specs.declared.Ask.{Ask}
-use Rattle.lanes.specs.declared.Ask.TheVariants.{Lookup, External, Var, Const}
+use Rattle.lanes.specs.declared.Ask.TheVariants.{Lookup, External, Entry}
 use Rattle.lanes.specs.declared.Test.{Test}
 use Rattle.lanes.specs.declared.Test.TheVariants.{Eq, Ne, AnyNe}
 
@@ -26,8 +24,7 @@ module _ (w m : List ℕ) where
   unfoldable pub asked : Ask → ℕ → Option ℕ
   asked (Lookup of key col) i = slice_get (row_of home_of w [] [] of (listed i key).vals) col.0
   asked (External func args) i = apply func.0 (as_list (listed i args))
-  asked (Var v) i = Some (get_or m (256 * v.0 + i) 0)
-  asked (Const x) i = Some x
+  asked (Entry e) i = Some (word_of m i (entry_of e))
 
   -- whether lane i passes
   unfoldable pub holds : Test → ℕ → Bool
@@ -35,22 +32,11 @@ module _ (w m : List ℕ) where
   holds (Ne l r) i = not (eqb (word_of m i (entry_of l)) (word_of m i (entry_of r)))
   holds (AnyNe ops divider) i = any_ne (take divider (as_list (listed i ops))) (drop divider (as_list (listed i ops)))
 
--- whether two entries are equal in lane i; whether they differ, where `equal` is false
-abbrev pub agreed : (m : List ℕ) (l r : QueryEntry) (equal : Bool) → ℕ → Bool
-agreed m l r true i = eqb (word_of m i (entry_of l)) (word_of m i (entry_of r))
-agreed m l r false i = not (eqb (word_of m i (entry_of l)) (word_of m i (entry_of r)))
-
--- what an entry stands for is asked for
-unfoldable pub entry_ask : QueryEntry → Ask
-entry_ask (entry.Var v) = Var v
-entry_ask (entry.Const x) = Const x
-
 -- what the code may suppose: a table can be searched, by the index of committed rows or without, and a list is short
-abbrev pub AskFits : List ℕ → List ℕ → Ask → Type 0
+abbrev pub AskFits : List ℕ → Option (List ℕ) → Ask → Type 0
 AskFits w chains (Lookup of key col) = Searchable w chains of × Short key
 AskFits w chains (External func args) = Short args
-AskFits w chains (Var v) = Unit {0}
-AskFits w chains (Const x) = Unit {0}
+AskFits w chains (Entry e) = Unit {0}
 
 abbrev pub TestFits : Test → Type 0
 TestFits (Eq l r) = Unit {0}

@@ -1,7 +1,7 @@
 // The passes over the lanes of a batch that only read: what each live lane is answered, and which lanes pass a test.
 #![tactic(auto)]
 
-ghost use Rattle.std.specs.Prelude.{ℕ, Bool, Option, ◌≡◌, ◌&&◌, length, take, drop, Some, slice_get};
+ghost use Rattle.std.specs.Prelude.{ℕ, Bool, Option, ◌≡◌, ◌&&◌, length, take, drop, Some, slice_get, option_copied};
 ghost use Rattle.model.specs.Basics.{only};
 ghost use Rattle.model.specs.Machine.Steps.{any_ne};
 ghost use Rattle.bindings.specs.Columns.{word_of};
@@ -10,23 +10,23 @@ ghost use Rattle.instr.specs.Stands.{Short};
 ghost use Rattle.predicted_index.specs.Row.{Searchable};
 ghost use Rattle.lanes.specs.declared.Ask.TheVariants.{Lookup, External};
 ghost use Rattle.lanes.specs.declared.Test.TheVariants.{AnyNe};
-ghost use Rattle.lanes.specs.Lanes.{listed, entry_ask, asked, AskFits, holds, agreed, TestFits, or_else, answered_lanes, answered_words, Fills, kept};
+ghost use Rattle.lanes.specs.Lanes.{listed, asked, AskFits, holds, TestFits, or_else, answered_lanes, answered_words, Fills, kept};
 
 use args::Args;
-use ids::{ColumnId, ExternalFunctionId, Lane, Variable};
+use ids::{ColumnId, ExternalFunctionId, Lane};
 use instr::{Entries, QueryEntry};
 use mask::Mask;
 use predicted_index::Sought;
 
-// What the lanes read: the book's words, an index of its rows, or an empty one for none, and the columns of the batch.
+// What the lanes read: the book's words, an index of its rows, if there is one, and the columns of the batch. These may be of any length: past their end each pass reads 0.
 #[derive(Clone, Copy)]
 pub struct View<'a> {
     pub words: &'a [u32],
-    pub chains: &'a [u32],
+    pub chains: Option<&'a [u32]>,
     pub bindings: &'a [u32],
 }
 
-// What a lane asks for: a column of the committed row with a key, what a function answers, a variable's word, or a constant.
+// What a lane asks for: a column of the committed row with a key, what a function answers, or what an entry stands for.
 #[derive(Clone, Copy)]
 pub enum Ask {
     Lookup {
@@ -38,8 +38,7 @@ pub enum Ask {
         func: ExternalFunctionId,
         args: Entries,
     },
-    Var(Variable),
-    Const(u32),
+    Entry(QueryEntry),
 }
 
 // What a lane has to pass: two entries are equal, or differ, or some pair of a list's two sides differs.
@@ -50,25 +49,14 @@ pub enum Test {
     AnyNe { ops: Entries, divider: usize },
 }
 
-// What an entry stands for is asked for.
-#[tactic(auto, unfolding(crate::specs::Lanes::entry_ask))]
-pub fn entry_ask(e: QueryEntry) -> Ask
-    ensures { result ≡ entry_ask e }
-{
-    match e {
-        QueryEntry::Var(v) => Ask::Var(v),
-        QueryEntry::Const(x) => Ask::Const(x),
-    }
-}
-
-// The column of a row, which has no words where there is none.
+// The column of a row, if it has one.
 fn column(row: &[u32], col: ColumnId) -> Option<u32>
     ensures { result ≡ slice_get row.now col.0 }
 {
     row.get(usize::from(col)).copied()
 }
 
-// A pass of `fill`: each live lane has the word that `answer` gives it, and is live no more where it gives none. What `answer` is lent is for its arguments. So the families are told apart outside of the loop.
+// A pass of `fill`: each live lane has the word that `answer` gives it, and is live no more where it gives none. `answer` is lent 16 words, for the arguments of a function that it calls. Whether a table or a function answers is decided by the caller, once and not for each lane.
 fn fill_by<F: Fn(Lane, &mut [u32; 16]) -> Option<u32>>(
     mut mask: Mask,
     out: &mut [u32; 256],
@@ -80,6 +68,7 @@ fn fill_by<F: Fn(Lane, &mut [u32; 16]) -> Option<u32>>(
         → Fills ask mask.live out.old result.live out.new }
 {
     let mut vals = [0u32; 16];
+    // by place, as in `retain_by` and `fill_entry`: compiled, each is one loop, which tests no place of the marks or of `out`
     for i in 0..mask.end() {
         if mask.live[i] {
             match answer(Lane(i), &mut vals) {
@@ -104,12 +93,7 @@ fn any_ne(ops: &[u32], divider: usize) -> bool
 {
     let (left, right) = ops.split_at(divider.min(ops.len()));
     // by place: a zip of the sides would test for two ends at each pair
-    for k in 0..left.len().min(right.len()) {
-        if left[k] != right[k] {
-            return true;
-        }
-    }
-    false
+    (0..left.len().min(right.len())).any(|k| left[k] != right[k])
 }
 
 // A pass of `retain`: `passes` tells of each lane, by whether it is live, whether it stays.
@@ -131,7 +115,7 @@ impl<'a> View<'a> {
         requires { Short list }
         ensures { result ≡ listed self.entry.words.now self.entry.bindings.now lane.0 list }
     {
-        bindings::fetch(self.words, self.bindings, lane, list.at, list.count)
+        bindings::fetch(self.words, self.bindings, lane, list)
     }
 
     // What an entry stands for in a lane.
@@ -147,15 +131,13 @@ impl<'a> View<'a> {
     // What a table answers in a lane: a column of the committed row with the key.
     #[tactic(auto, unfolding(crate::specs::Lanes::asked, bindings::specs::Columns::fetched))]
     fn look_up(self, of: Sought, key: Entries, col: ColumnId, lane: Lane) -> Option<u32>
-        requires { Searchable self.words.now self.chains.now of × Short key }
+        requires { Searchable self.words.now (option_copied self.chains) of × Short key }
         ensures { result ≡ asked self.entry.words.now self.entry.bindings.now (Lookup of key col) lane.0 }
     {
-        let words = self.words;
         let mut vals = [0u32; 16];
-        bindings::fetch_into(words, self.bindings, lane, key.at, key.count, &mut vals);
-        // the log is not looked at
-        let row = predicted_index::row_of(words, &words[..0], self.chains, &words[..0], of, &vals);
-        column(row, col)
+        bindings::fetch_into(self.words, self.bindings, lane, key, &mut vals);
+        let p = predicted_index::committed(self.words, self.chains, of, &vals)?;
+        column(words::part(self.words, p, of.info.width), col)
     }
 
     // What a function answers in a lane; `vals` is lent for its arguments.
@@ -169,9 +151,8 @@ impl<'a> View<'a> {
         requires { Short args }
         ensures { result ≡ asked self.entry.words.now self.entry.bindings.now (External func args) lane.0 }
     {
-        let count = args.count;
-        bindings::fetch_into(self.words, self.bindings, lane, args.at, count, vals);
-        functions::invoke(func, &vals[..count])
+        bindings::fetch_into(self.words, self.bindings, lane, args, vals);
+        functions::invoke(func, &vals[..args.count])
     }
 
     fn lookup_row_vectorized(
@@ -182,7 +163,7 @@ impl<'a> View<'a> {
         mask: Mask,
         out: &mut [u32; 256],
     ) -> Mask
-        requires { Searchable self.words.now self.chains.now of × Short key }
+        requires { Searchable self.words.now (option_copied self.chains) of × Short key }
         ensures { Fills (asked self.entry.words.now self.entry.bindings.now (Lookup of key col)) mask.live
             out.old result.live out.new }
     {
@@ -218,7 +199,7 @@ impl<'a> View<'a> {
     // Each lane of the mask that is answered has its word in `out`; the lanes that were.
     #[tactic(auto, unfolding(crate::specs::Lanes::asked))]
     pub fn fill(self, ask: Ask, mask: Mask, out: &mut [u32; 256]) -> Mask
-        requires { AskFits self.words.now self.chains.now ask }
+        requires { AskFits self.words.now (option_copied self.chains) ask }
         ensures lanes { result.live ≡ answered_lanes (asked self.entry.words.now self.entry.bindings.now ask) mask.live }
         ensures words { out.new ≡ answered_words (asked self.entry.words.now self.entry.bindings.now ask) mask.live
             out.old }
@@ -226,17 +207,8 @@ impl<'a> View<'a> {
         match ask {
             Ask::Lookup { of, key, col } => self.lookup_row_vectorized(of, key, col, mask, out),
             Ask::External { func, args } => self.invoke_batch(func, args, mask, out),
-            Ask::Var(v) => self.fill_entry(QueryEntry::Var(v), mask, out),
-            Ask::Const(x) => self.fill_entry(QueryEntry::Const(x), mask, out),
+            Ask::Entry(e) => self.fill_entry(e, mask, out),
         }
-    }
-
-    // Whether two entries are equal in a lane; whether they differ, where `equal` is false.
-    fn agree(self, l: QueryEntry, r: QueryEntry, equal: bool, lane: Lane) -> bool
-        ensures { result ≡ agreed self.entry.bindings.now l r equal lane.0 }
-    {
-        let same = self.value(l, lane) == self.value(r, lane);
-        same == equal
     }
 
     // Whether some pair of a lane's words differs.
@@ -244,23 +216,9 @@ impl<'a> View<'a> {
         requires { Short ops }
         ensures { result ≡ holds self.entry.words.now self.entry.bindings.now (AnyNe ops divider) lane.0 }
     {
-        let count = ops.count;
         let mut vals = [0u32; 16];
-        bindings::fetch_into(self.words, self.bindings, lane, ops.at, count, &mut vals);
-        any_ne(&vals[..count], divider)
-    }
-
-    fn assert_impl(self, l: QueryEntry, r: QueryEntry, equal: bool, mask: Mask) -> Mask
-        ensures { result.live ≡ kept (agreed self.entry.bindings.now l r equal) mask.live }
-    {
-        retain_by(mask, |live, lane| live & self.agree(l, r, equal, lane))
-    }
-
-    fn retain_any_ne(self, ops: Entries, divider: usize, mask: Mask) -> Mask
-        requires { Short ops }
-        ensures { result.live ≡ kept (holds self.entry.words.now self.entry.bindings.now (AnyNe ops divider)) mask.live }
-    {
-        retain_by(mask, |live, lane| live && self.differ(ops, divider, lane))
+        bindings::fetch_into(self.words, self.bindings, lane, ops, &mut vals);
+        any_ne(&vals[..ops.count], divider)
     }
 
     // The lanes of the mask that pass; the others are dropped.
@@ -270,9 +228,15 @@ impl<'a> View<'a> {
         ensures { result.live ≡ kept (holds self.entry.words.now self.entry.bindings.now test) mask.live }
     {
         match test {
-            Test::Eq(l, r) => self.assert_impl(l, r, true, mask),
-            Test::Ne(l, r) => self.assert_impl(l, r, false, mask),
-            Test::AnyNe { ops, divider } => self.retain_any_ne(ops, divider, mask),
+            Test::Eq(l, r) => retain_by(mask, |live, lane| {
+                live & (self.value(l, lane) == self.value(r, lane))
+            }),
+            Test::Ne(l, r) => retain_by(mask, |live, lane| {
+                live & (self.value(l, lane) != self.value(r, lane))
+            }),
+            Test::AnyNe { ops, divider } => {
+                retain_by(mask, |live, lane| live && self.differ(ops, divider, lane))
+            }
         }
     }
 }
