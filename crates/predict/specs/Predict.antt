@@ -1,7 +1,9 @@
 -- The predicted row of a key, in the words of the log and the index: w is the book's words, m the memory of the bindings.
 use Rattle.std.specs.Prelude.{ℕ, ◌+◌, ◌≡◌, Bool, true, false, ◌&&◌, ◌||◌, cond, List, length, get_or, set, Option, Some, None}
 use Rattle.model.specs.Basics.{iter, when}
+use Rattle.ids.specs.declared.ColumnId.{ColumnId}
 use Rattle.args.specs.declared.Args.{Args}
+use Rattle.instr.specs.declared.Entries.{Entries}
 use Rattle.tables.specs.Tables.{found_row}
 use Rattle.predicted_index.specs.declared.Slot.{Slot}
 use Rattle.predicted_index.specs.declared.Slot.TheVariants.{Hit, Free, Full as NoSlot}
@@ -13,31 +15,39 @@ use Rattle.build.specs.declared.Building.{Building}
 use Rattle.build.specs.Build.{built}
 use Rattle.execution.specs.declared.Stop.{Stop}
 use Rattle.execution.specs.declared.Stop.TheVariants.{Spent, Full}
-use Rattle.execution.specs.declared.ExecutionState.{ExecutionState}
-use Rattle.execution.specs.Execution.{is_going, stopped, Logged, staged}
+use Rattle.execution.specs.Execution.{RunState, state_of, is_going, stopped, Logged, staged}
 use Rattle.predict.specs.declared.Row.{Row}
-use Rattle.predict.specs.declared.Asking.{Asking}
+use Rattle.predict.specs.declared.asked.Asking.{Asking}
 use Rattle.predict.specs.declared.run.Execution.{Execution}
+
+-- what a lane asks for, whatever is known of its lists
+pub record Asked : Type 0 where
+  pub row : Row
+  pub key : Entries
+  pub col : ColumnId
+
+abbrev pub as_asked : Asking → Asked
+as_asked a = record { row = a.row; key = a.key; col = a.col }
 
 -- a run's state with its log and index
 pub record Held : Type 0 where
-  pub state : ExecutionState
+  pub state : RunState
   pub log : List ℕ
   pub index : List ℕ
 
 abbrev pub as_held : Execution → Held
-as_held e = record { state = e.state; log = e.log.now; index = e.index.now }
+as_held e = record { state = state_of e.state; log = e.state.log.words.now; index = e.index.now }
 
 -- a call leaves the same words lent, and as many, whatever it puts there
 pub record SameWords (e f : Execution) : Type 0 where
-  pub log : f.log.ghost_name ≡ e.log.ghost_name
+  pub log : f.state.log.words.ghost_name ≡ e.state.log.words.ghost_name
   pub index : f.index.ghost_name ≡ e.index.ghost_name
-  pub size : length f.log.now ≡ length e.log.now
+  pub size : length f.state.log.words.now ≡ length e.state.log.words.now
 
 -- a row was got: whether it was made, and what the run keeps
 pub record Got : Type 0 where
   pub made : Bool
-  pub state : ExecutionState
+  pub state : RunState
 
 -- what was got, and the log and index after it
 pub record Gotten : Type 0 where
@@ -46,19 +56,19 @@ pub record Gotten : Type 0 where
   pub index : List ℕ
 
 abbrev pub as_gotten : Bool → Execution → Gotten
-as_gotten made e = record { got = record { made = made; state = e.state }; log = e.log.now; index = e.index.now }
+as_gotten made e = record { got = record { made = made; state = state_of e.state }; log = e.state.log.words.now; index = e.index.now }
 
 -- with the lanes' words
 pub record Served : Type 0 where
-  pub state : ExecutionState
+  pub state : RunState
   pub log : List ℕ
   pub index : List ℕ
   pub out : List ℕ
 
 abbrev pub as_served : Execution → List ℕ → Served
-as_served e out = record { state = e.state; log = e.log.now; index = e.index.now; out = out }
+as_served e out = record { state = state_of e.state; log = e.state.log.words.now; index = e.index.now; out = out }
 
-abbrev pub stopped_by : Option Stop → ExecutionState → Got
+abbrev pub stopped_by : Option Stop → RunState → Got
 stopped_by why s = record { made = false; state = stopped why s }
 
 -- a row that was built is logged, and the index has its place in the slot
@@ -78,11 +88,11 @@ noted g = record { made = g.made; state = record { used = g.state.used; counters
 
 module _ (w : List ℕ) where
   -- lane i has a column of the row that the key has
-  abbrev pub taken_word : Asking → List ℕ → ℕ → (log ix out : List ℕ) → List ℕ
+  abbrev pub taken_word : Asked → List ℕ → ℕ → (log ix out : List ℕ) → List ℕ
   taken_word ask key i log ix out = set out i (get_or (row_of home_of w log ix ask.row.of key) ask.col.0 0)
 
   -- if the run goes on
-  abbrev pub taken : Asking → List ℕ → ℕ → List ℕ → Gotten → Served
+  abbrev pub taken : Asked → List ℕ → ℕ → List ℕ → Gotten → Served
   taken ask key i out g = record { state = g.got.state; log = g.log; index = g.index; out = cond (is_going g.got.state) (taken_word ask key i g.log g.index out) out }
 
 module _ (w m : List ℕ) where
@@ -100,10 +110,10 @@ module _ (w m : List ℕ) where
   gotten i row key h = by_slot i row key h (slot_of home_of h.index h.log row.of.table.0 key.vals row.of.info.keys)
 
   -- lane i, if it is live and the run goes on
-  unfoldable pub served_lane : Asking → Bool → ℕ → Served → Served
+  unfoldable pub served_lane : Asked → Bool → ℕ → Served → Served
   served_lane ask live i s = when (live && is_going s.state) (λ s'. let key = listed w m i ask.key in taken w ask key.vals i s'.out (gotten i ask.row key (record { state = s'.state; log = s'.log; index = s'.index }))) s
 
-  unfoldable pub served_lanes : Asking → List Bool → Served → Served
+  unfoldable pub served_lanes : Asked → List Bool → Served → Served
   served_lanes ask live s = iter (λ i. served_lane ask (get_or live i false) i) 256 s
 
   -- ## A prediction

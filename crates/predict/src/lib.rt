@@ -1,23 +1,23 @@
 // Predicted rows: one for each table and asked key, found in the log by the index, else built and logged; and who asks for them.
 #![tactic(auto)]
 
+mod asked;
 mod run;
 
-ghost use Rattle.std.specs.Prelude.{◌≡◌, ◌≤◌, ◌<◌, false, length, get_or};
+ghost use Rattle.std.specs.Prelude.{◌≡◌, ◌≤◌, ◌<◌, false, length, get_or, option_copied};
 ghost use Rattle.predicted_index.specs.Row.{Searchable};
-ghost use Rattle.instr.specs.Stands.{Short};
-ghost use Rattle.predict.specs.Predict.{SameWords, as_gotten, as_held, as_served};
+ghost use Rattle.predict.specs.Predict.{SameWords, as_asked, as_gotten, as_held, as_served};
 ghost use Rattle.predict.specs.Predict.{inserted, gotten, taken_word, served_lane, served_lanes, answered};
 
 use args::Args;
+pub use asked::{Asking, Keyed};
 use execution::Stop;
-use ids::{ColumnId, Lane};
+use ids::Lane;
 use instr::Entries;
 use lanes::View;
 use mask::Mask;
 use predicted_index::{Slot, Sought};
 pub use run::Execution;
-use tables::Rows;
 
 // Which row is asked for: of which table, and the write values of a new one.
 #[derive(Clone, Copy)]
@@ -26,25 +26,10 @@ pub struct Row {
     pub vals: Entries,
 }
 
-// That row, by its key.
-#[derive(Clone, Copy)]
-pub struct Keyed {
-    pub row: Row,
-    pub key: Args,
-}
-
-// What a lane asks for: a row by the key that entries stand for, and the column that dst takes.
-#[derive(Clone, Copy)]
-pub struct Asking {
-    pub row: Row,
-    pub key: Entries,
-    pub col: ColumnId,
-}
-
 // A new row, whose place the index takes up in the free slot; whether it was made.
 #[tactic(auto, using(execution::specs::ExecutionLaws::staged_taken), unfolding(crate::specs::Predict::inserted))]
 fn insert(view: View, lane: Lane, want: Keyed, slot: usize, run: &mut Execution) -> bool
-    requires { Short want.row.vals × (want.key.count ≤ 16) × (slot < 8192) }
+    requires { slot < 8192 }
     ensures is { as_gotten result run.new
         ≡ inserted view.entry.words.now view.entry.bindings.now lane.0 want.row want.key slot
         (as_held run.old) }
@@ -56,9 +41,9 @@ fn insert(view: View, lane: Lane, want: Keyed, slot: usize, run: &mut Execution)
         state.stop_for(Some(Stop::Spent));
         return false;
     };
-    let place = state.used;
+    let place = state.log.used;
     state.counters = b.counters;
-    state.stage(2, row.of.table, &b.row.vals[..b.row.count], run.log);
+    state.stage_predicted(row.of.table, &b.row.vals[..b.row.count]);
     let made = state.going();
     if made {
         predicted_index::insert(run.index, slot, place);
@@ -74,7 +59,7 @@ impl PredictedVals {
     // The predicted row of the key, else a new one, built by the write values; whether it was made.
     #[tactic(auto, using(predicted_index::specs::RightLaws::get_below, predicted_index::specs::HomeLaws::home_below), unfolding(crate::specs::Predict::gotten))]
     pub fn get_or_insert_with(view: View, lane: Lane, want: Keyed, run: &mut Execution) -> bool
-        requires { Short want.row.vals × (want.row.of.info.keys ≤ 16) × (want.key.count ≤ 16) }
+        requires { want.row.of.info.keys ≤ 16 }
         ensures is { as_gotten result run.new
             ≡ gotten view.entry.words.now view.entry.bindings.now lane.0 want.row want.key
             (as_held run.old) }
@@ -94,14 +79,15 @@ impl PredictedVals {
 
 // The lane's word, a column of the row that the key has.
 fn take(view: View, ask: Asking, key: Args, lane: Lane, run: &Execution, out: &mut [u32; 256])
-    requires { Searchable view.words.now view.chains.now ask.row.of × (lane.0 < 256) }
-    ensures { out.new ≡ taken_word view.entry.words.now ask key.vals lane.0 run.now.log.now run.now.index.now out.old }
+    requires { Searchable view.words.now (option_copied view.chains) ask.row.of × (lane.0 < 256) }
+    ensures { out.new ≡ taken_word view.entry.words.now (as_asked ask) key.vals lane.0
+        run.now.state.log.words.now run.now.index.now out.old }
 {
     // lent from a copy, so that the call does not keep all of `key` in memory
     let vals = key.vals;
     let row = predicted_index::row_of(
         view.words,
-        run.log,
+        run.state.log.words,
         view.chains,
         run.index,
         ask.row.of,
@@ -120,10 +106,9 @@ fn serve_lane(
     run: &mut Execution,
     out: &mut [u32; 256],
 )
-    requires { Searchable view.words.now view.chains.now ask.row.of × Short ask.key × Short ask.row.vals
-        × (lane.0 < 256) }
+    requires { Searchable view.words.now (option_copied view.chains) ask.row.of × (lane.0 < 256) }
     ensures is { as_served run.new out.new
-        ≡ served_lane view.entry.words.now view.entry.bindings.now ask (get_or mask.now.live lane.0 false) lane.0
+        ≡ served_lane view.entry.words.now view.entry.bindings.now (as_asked ask) (get_or mask.now.live lane.0 false) lane.0
         (as_served run.old out.old) }
     ensures same { SameWords run.old run.new }
 {
@@ -139,9 +124,9 @@ fn serve_lane(
 
 // Each lane of the mask is served, ascending, until a counter is spent or the log is full.
 pub fn serve_lanes(view: View, ask: Asking, mask: Mask, run: &mut Execution, out: &mut [u32; 256])
-    requires { Searchable view.words.now view.chains.now ask.row.of × Short ask.key × Short ask.row.vals }
+    requires { Searchable view.words.now (option_copied view.chains) ask.row.of }
     ensures is { as_served run.new out.new
-        ≡ served_lanes view.entry.words.now view.entry.bindings.now ask mask.live
+        ≡ served_lanes view.entry.words.now view.entry.bindings.now (as_asked ask) mask.live
         (as_served run.old out.old) }
     ensures same { SameWords run.old run.new }
 {
@@ -153,18 +138,15 @@ pub fn serve_lanes(view: View, ask: Asking, mask: Mask, run: &mut Execution, out
 // A key without a committed row has a predicted one afterwards: where it had none before, the row is made, and the changed flag set. Whether it was made.
 #[tactic(auto, unfolding(crate::specs::Predict::answered))]
 pub fn predict_val(view: View, want: Keyed, run: &mut Execution) -> bool
-    requires { Searchable view.words.now view.chains.now want.row.of × Short want.row.vals × (want.key.count ≤ 16) }
+    requires { Searchable view.words.now (option_copied view.chains) want.row.of }
     ensures is { as_gotten result run.new
         ≡ answered view.entry.words.now view.entry.bindings.now want.row want.key
         (as_held run.old) }
     ensures same { SameWords run.old run.new }
 {
-    let of = want.row.of;
-    let rows = Rows {
-        words: view.words,
-        info: of.info,
-    };
-    if hash_index::look_up_among(rows, view.chains, of.first, &want.key.vals).is_some() {
+    // lent from a copy, so that the call does not keep all of `want` in memory
+    let key = want.key.vals;
+    if predicted_index::committed(view.words, view.chains, want.row.of, &key).is_some() {
         return false;
     }
     let made = PredictedVals::get_or_insert_with(view, Lane(0), want, run);

@@ -8,13 +8,12 @@ use args::Args;
 use execution::ExecutionState;
 use predicted_index::{Slot, Sought};
 
-// A run: what it keeps, and the words lent for the log and for the index of the predicted rows.
+// A run: what it keeps, and the words lent for the index of the predicted rows.
 #[derive(Drop)]
 pub struct Execution<'a> {
-    pub state: ExecutionState,
-    pub log: &'a mut [u32],
+    pub state: ExecutionState<'a>,
     pub index: &'a mut [u32],
-    ghost ready: { Ready state log.now index.now },
+    ghost ready: { Ready state.log.words.now index.now },
 }
 
 impl Execution<'_> {
@@ -22,11 +21,17 @@ impl Execution<'_> {
     #[tactic(auto, using(predicted_index::specs::IndexLaws::slot_of_taken))]
     pub fn get(&self, of: Sought, key: Args) -> Slot
         requires { of.info.keys ≤ 16 }
-        ensures is { result ≡ slot_of home_of self.now.index.now self.now.log.now of.table.0 key.vals of.info.keys }
+        ensures is { result ≡ slot_of home_of self.now.index.now self.now.state.log.words.now of.table.0
+            key.vals of.info.keys }
         ensures small { Small result }
     {
         // lent from a copy, so that the call does not keep all of `key` in memory
         let vals = key.vals;
-        predicted_index::get(self.index, self.log, of.table, &vals[..of.info.keys])
+        predicted_index::get(
+            self.index,
+            self.state.log.words,
+            of.table,
+            &vals[..of.info.keys],
+        )
     }
 }
