@@ -1,35 +1,33 @@
 -- What an instruction does to the lanes of a batch: w is the book's words, m the memory of the bindings.
-use Rattle.std.specs.Prelude.{ℕ, Bool, List, get_or}
+use Rattle.std.specs.Prelude.{ℕ, Bool, List, get_or, replicate}
 use Rattle.ids.specs.declared.TableId.{TableId}
 use Rattle.ids.specs.declared.ColumnId.{ColumnId}
-use Rattle.mask.specs.Masks.{first_lanes, united, without}
+use Rattle.mask.specs.Masks.{united, without}
 use Rattle.predicted_index.specs.Row.{sought_in}
 use Rattle.instr.specs.declared.Entries.{Entries}
 use Rattle.instr.specs.declared.Instr.{Instr}
 use Rattle.instr.specs.declared.Instr.TheVariants.{LookupOrInsertDefault, LookupWithDefault, Lookup, LookupWithFallback, Insert, InsertIfEq, Remove, External, ExternalWithFallback, AssertEq, AssertNe, AssertAnyNe, ReadCounter}
 use Rattle.lanes.specs.declared.Ask.{Ask}
-use Rattle.lanes.specs.declared.Ask.TheVariants.{Lookup as AskRow, External as AskFunction, Const as AskConst}
+use Rattle.lanes.specs.declared.Ask.TheVariants.{Lookup as AskRow, External as AskFunction, Entry as AskEntry}
 use Rattle.lanes.specs.declared.Test.{Test}
 use Rattle.lanes.specs.declared.Test.TheVariants.{Eq, Ne, AnyNe}
-use Rattle.lanes.specs.Lanes.{listed, entry_ask, asked, holds, answered_lanes, answered_words, kept}
+use Rattle.lanes.specs.Lanes.{listed, asked, holds, answered_lanes, answered_words, kept}
 use Rattle.record_log.specs.declared.Change.{Change}
 use Rattle.record_log.specs.declared.Change.TheVariants as change
-use Rattle.execution.specs.declared.ExecutionState.{ExecutionState}
-use Rattle.execution.specs.Execution.{Logged, staged_lanes}
-use Rattle.predict.specs.declared.Asking.{Asking}
+use Rattle.execution.specs.Execution.{RunState, state_of, Logged, staged_lanes}
 use Rattle.predict.specs.declared.run.Execution.{Execution}
-use Rattle.predict.specs.Predict.{Served, served_lanes}
+use Rattle.predict.specs.Predict.{Asked, Served, served_lanes}
 
 -- the live lanes, what the run keeps, and the array of the lanes' dst
 pub record Lanes : Type 0 where
   pub live : List Bool
-  pub state : ExecutionState
+  pub state : RunState
   pub log : List ℕ
   pub index : List ℕ
   pub out : List ℕ
 
 abbrev pub as_lanes : List Bool → Execution → List ℕ → Lanes
-as_lanes live e out = record { live = live; state = e.state; log = e.log.now; index = e.index.now; out = out }
+as_lanes live e out = record { live = live; state = state_of e.state; log = e.state.log.words.now; index = e.index.now; out = out }
 
 abbrev pub with_lanes : List Bool → List ℕ → Lanes → Lanes
 with_lanes live out l = record { live = live; state = l.state; log = l.log; index = l.index; out = out }
@@ -45,7 +43,7 @@ abbrev pub row_ask : List ℕ → TableId → Entries → ColumnId → Ask
 row_ask w t key col = AskRow (sought_in w t) key col
 
 -- the predicted row that a lane asks for
-abbrev pub asking : List ℕ → TableId → Entries → Entries → ColumnId → Asking
+abbrev pub asking : List ℕ → TableId → Entries → Entries → ColumnId → Asked
 asking w t args vals col = record { row = record { of = sought_in w t; vals = vals }; key = args; col = col }
 
 module _ (w m : List ℕ) where
@@ -67,7 +65,7 @@ module _ (w m : List ℕ) where
   answering_or ask other l = with_lanes (either_lanes ask other l.live) (either_words ask other l.live l.out) l
 
   -- lanes with no committed row are served from the predicted rows; none drops
-  abbrev pub serving : Asking → Lanes → Lanes
+  abbrev pub serving : Asked → Lanes → Lanes
   serving ask l =
       let row = AskRow ask.row.of ask.key ask.col in
       with_served (served_lanes w m ask (unanswered row l.live) (record { state = l.state; log = l.log; index = l.index; out = answered_words (asked w m row) l.live l.out })) l
@@ -80,11 +78,11 @@ module _ (w m : List ℕ) where
 
   -- a counter's next in every lane
   abbrev pub counting : ℕ → Lanes → Lanes
-  counting c l = with_lanes l.live (answered_words (asked w m (AskConst (get_or l.state.counters.next c 0))) (first_lanes 256) l.out) l
+  counting c l = with_lanes l.live (replicate 256 (get_or l.state.counters.next c 0)) l
 
   unfoldable pub acted : Instr → Lanes → Lanes
   acted (LookupOrInsertDefault t args vals col dst) l = serving (asking w t args vals col) l
-  acted (LookupWithDefault t args col dst e) l = answering_or (row_ask w t args col) (entry_ask e) l
+  acted (LookupWithDefault t args col dst e) l = answering_or (row_ask w t args col) (AskEntry e) l
   acted (Lookup t args col dst) l = answering (row_ask w t args col) l
   acted (LookupWithFallback t key f args col dst) l = answering_or (row_ask w t key col) (AskFunction f args) l
   acted (Insert t vals) l = staging change.Insert t vals l.live l

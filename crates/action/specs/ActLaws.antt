@@ -1,5 +1,5 @@
 -- The tables of a book that can be read can be searched.
-use Rattle.std.specs.Prelude.{ℕ, ◌<◌, List}
+use Rattle.std.specs.Prelude.{ℕ, ◌<◌, List, Option}
 use Rattle.model.specs.Book.Contents.{first_of, end_of, table_count}
 use Rattle.model.specs.Book.Read.{sizes}
 use Rattle.model.specs.Laws.Book.{Readable}
@@ -16,5 +16,5 @@ table_stands w h t l =
     let r = table_read w h.contents h.bodies t l in
     stands w (first_of w t) (sizes w) (end_of w t) r.1 r.0.within
 
-pub searchable : (w chains : List ℕ) → Readable w → BookIndex w (table_count w) chains → (t : TableId) → t.0 < table_count w → Searchable w chains (sought_in w t)
+pub searchable : (w : List ℕ) (chains : Option (List ℕ)) → Readable w → BookIndex w (table_count w) chains → (t : TableId) → t.0 < table_count w → Searchable w chains (sought_in w t)
 searchable w chains h b t l = record { stands = table_stands w h t.0 l; indexed = book_has w (table_count w) chains b t.0 l }

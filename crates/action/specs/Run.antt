@@ -9,11 +9,10 @@ use Rattle.bindings.specs.Columns.{bound}
 use Rattle.instr.specs.declared.Instr.{Instr}
 use Rattle.instr.specs.Instr.{instr_at}
 use Rattle.instr.specs.Stands.{binds_of}
-use Rattle.execution.specs.Execution.{is_going}
+use Rattle.execution.specs.Execution.{RunState, state_of, is_going}
 use Rattle.predict.specs.declared.run.Execution.{Execution}
 use Rattle.bindings.specs.declared.Bindings.{Bindings}
 use Rattle.mask.specs.declared.Mask.{Mask}
-use Rattle.execution.specs.declared.ExecutionState.{ExecutionState}
 use Rattle.action.specs.declared.Batch.{Batch}
 use Rattle.action.specs.Act.{Lanes, acted}
 
@@ -21,7 +20,7 @@ use Rattle.action.specs.Act.{Lanes, acted}
 pub record Acting : Type 0 where
   pub bindings : Bindings
   pub mask : Mask
-  pub state : ExecutionState
+  pub state : RunState
 
 -- with the memory that it runs in
 pub record Running : Type 0 where
@@ -31,7 +30,7 @@ pub record Running : Type 0 where
   pub index : List ℕ
 
 abbrev pub as_running : Batch → Execution → List ℕ → Running
-as_running b e bindings = record { batch = record { bindings = b.bindings; mask = b.mask; state = e.state }; bindings = bindings; log = e.log.now; index = e.index.now }
+as_running b e bindings = record { batch = record { bindings = b.bindings; mask = b.mask; state = state_of e.state }; bindings = bindings; log = e.state.log.words.now; index = e.index.now }
 
 -- dst takes the first n words of an array
 abbrev pub bound_to : Option ℕ → ℕ → List ℕ → List ℕ → List ℕ

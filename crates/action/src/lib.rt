@@ -1,13 +1,11 @@
-// The interpreter: the instructions of a rule act on the lanes of a batch, one after the other. An index of the book's rows is lent as `chains`, or an empty one for none.
+// The interpreter: the instructions of a rule act on the lanes of a batch, one after the other.
 #![tactic(auto)]
 
 mod lookup;
 
-ghost use Rattle.std.specs.Prelude.{◌≡◌, ◌+◌, ◌≤◌, ◌<◌, length, get_or};
-ghost use Rattle.model.specs.Book.Contents.{rule_count, table_count};
+ghost use Rattle.std.specs.Prelude.{◌≡◌, ◌+◌, ◌≤◌, ◌<◌, get_or};
+ghost use Rattle.model.specs.Book.Contents.{rule_count};
 ghost use Rattle.model.specs.Outcome.{rule_first};
-ghost use Rattle.model.specs.Laws.Book.{Readable};
-ghost use Rattle.hash_index.specs.Book.{BookIndex};
 ghost use Rattle.bindings.specs.Bindings.{bound_in};
 ghost use Rattle.instr.specs.Instr.{instr_at};
 ghost use Rattle.instr.specs.Stands.{Stands, IsVariable, variable_of};
@@ -16,8 +14,8 @@ ghost use Rattle.action.specs.Act.{acted, as_lanes};
 ghost use Rattle.action.specs.Run.{bound_to, ran_instr, ran_next, ran_instrs, as_running};
 
 use bindings::Bindings;
-use contents::Book;
 use execution::Staging;
+use hash_index::IndexedBook;
 use ids::{STALE, Variable};
 use instr::Instr;
 use lanes::{Ask, Test, View};
@@ -34,14 +32,25 @@ pub struct Batch {
 
 // The lanes' part of an instruction; its dst is left in `out`.
 #[tactic(auto, using(crate::specs::ActLaws::searchable), unfolding(crate::specs::Act::acted))]
-fn act(view: View, i: Instr, mask: Mask, run: &mut Execution, out: &mut [u32; 256]) -> Mask
-    requires { Readable view.words.now × BookIndex view.words.now (table_count view.words.now) view.chains.now
-        × Stands view.words.now i }
+fn act(
+    indexed: IndexedBook,
+    bindings: &[u32],
+    i: Instr,
+    mask: Mask,
+    run: &mut Execution,
+    out: &mut [u32; 256],
+) -> Mask
+    requires { Stands indexed.book.words.now i }
     ensures is { as_lanes result.live run.new out.new
-        ≡ acted view.entry.words.now view.entry.bindings.now i (as_lanes mask.live run.old out.old) }
+        ≡ acted indexed.entry.book.words.now bindings.now i (as_lanes mask.live run.old out.old) }
     ensures same { SameWords run.old run.new }
 {
-    let words = view.words;
+    let words = indexed.book.words;
+    let view = View {
+        words,
+        chains: indexed.chains,
+        bindings,
+    };
     match i {
         Instr::LookupOrInsertDefault {
             table,
@@ -62,7 +71,7 @@ fn act(view: View, i: Instr, mask: Mask, run: &mut Execution, out: &mut [u32; 25
             ..
         } => {
             let ask = lookup::row_ask(words, table, args, dst_col);
-            lookup::fill_or_else(view, ask, lanes::entry_ask(default), mask, out)
+            lookup::fill_or_else(view, ask, Ask::Entry(default), mask, out)
         }
         Instr::Lookup {
             table,
@@ -91,7 +100,7 @@ fn act(view: View, i: Instr, mask: Mask, run: &mut Execution, out: &mut [u32; 25
                 table,
                 vals,
             };
-            execution::stage_lanes(view, what, mask, &mut run.state, run.log);
+            execution::stage_lanes(view, what, mask, &mut run.state);
             mask
         }
         Instr::InsertIfEq { table, l, r, vals } => {
@@ -105,7 +114,6 @@ fn act(view: View, i: Instr, mask: Mask, run: &mut Execution, out: &mut [u32; 25
                 what,
                 view.retain(Test::Eq(l, r), mask),
                 &mut run.state,
-                run.log,
             );
             mask
         }
@@ -115,7 +123,7 @@ fn act(view: View, i: Instr, mask: Mask, run: &mut Execution, out: &mut [u32; 25
                 table,
                 vals: args,
             };
-            execution::stage_lanes(view, what, mask, &mut run.state, run.log);
+            execution::stage_lanes(view, what, mask, &mut run.state);
             mask
         }
         Instr::External { func, args, .. } => view.fill(Ask::External { func, args }, mask, out),
@@ -142,15 +150,20 @@ fn act(view: View, i: Instr, mask: Mask, run: &mut Execution, out: &mut [u32; 25
         Instr::ReadCounter { counter, .. } => {
             // Dead lanes too have the counter's next in dst.
             let next = run.state.read_counter(counter);
-            view.fill(Ask::Const(next), Mask::new(256), out);
+            out.fill(next);
             mask
         }
     }
 }
 
 // dst takes the lanes' words of `out`, and is bound.
-fn bind_dst(kept: Bindings, dst: Option<Variable>, out: &[u32], bindings: &mut [u32]) -> Bindings
-    requires { IsVariable (variable_of dst) × (length bindings.old ≡ 8192) }
+fn bind_dst(
+    kept: Bindings,
+    dst: Option<Variable>,
+    out: &[u32],
+    bindings: &mut [u32; 8192],
+) -> Bindings
+    requires { IsVariable (variable_of dst) }
     ensures kept { result ≡ bound_in (variable_of dst) kept }
     ensures columns { bindings.new ≡ bound_to (variable_of dst) kept.matches out.now bindings.old }
 {
@@ -163,75 +176,64 @@ fn bind_dst(kept: Bindings, dst: Option<Variable>, out: &[u32], bindings: &mut [
 // One instruction: its lanes' part, and its dst bound.
 #[tactic(auto, unfolding(crate::specs::Run::ran_instr))]
 fn run_instr(
-    book: Book,
-    chains: &[u32],
+    indexed: IndexedBook,
     i: Instr,
     batch: &mut Batch,
     run: &mut Execution,
-    bindings: &mut [u32],
+    bindings: &mut [u32; 8192],
 )
-    requires { BookIndex book.words.now (table_count book.words.now) chains.now
-        × Stands book.words.now i × (length bindings.old ≡ 8192) }
+    requires { Stands indexed.book.words.now i }
     ensures is { as_running batch.new run.new bindings.new
-        ≡ ran_instr book.entry.words.now i (as_running batch.old run.old bindings.old) }
+        ≡ ran_instr indexed.entry.book.words.now i (as_running batch.old run.old bindings.old) }
     ensures same { SameWords run.old run.new }
 {
-    let view = View {
-        words: book.words,
-        chains,
-        bindings,
-    };
     let mut out = [STALE; 256];
-    batch.mask = act(view, i, batch.mask, run, &mut out);
+    batch.mask = act(indexed, bindings, i, batch.mask, run, &mut out);
     batch.bindings = bind_dst(batch.bindings, i.dst(), &out, bindings);
 }
 
 // The instruction whose opcode stands at p, if a lane is live and the run goes on.
 #[tactic(auto, unfolding(crate::specs::Run::ran_next))]
 fn run_next(
-    book: Book,
-    chains: &[u32],
+    indexed: IndexedBook,
     p: usize,
     batch: &mut Batch,
     run: &mut Execution,
-    bindings: &mut [u32],
+    bindings: &mut [u32; 8192],
 )
-    requires { BookIndex book.words.now (table_count book.words.now) chains.now × (p ≤ 16384)
-        × Stands book.words.now (instr_at book.words.now p) × (length bindings.old ≡ 8192) }
+    requires { (p ≤ 16384) × Stands indexed.book.words.now (instr_at indexed.book.words.now p) }
     ensures is { as_running batch.new run.new bindings.new
-        ≡ ran_next book.entry.words.now p (as_running batch.old run.old bindings.old) }
+        ≡ ran_next indexed.entry.book.words.now p (as_running batch.old run.old bindings.old) }
     ensures same { SameWords run.old run.new }
 {
     if run.state.going() && !batch.mask.is_empty() {
-        let i = instr::instr_at(book.words, p);
-        run_instr(book, chains, i, batch, run, bindings);
+        let i = instr::instr_at(indexed.book.words, p);
+        run_instr(indexed, i, batch, run, bindings);
     }
 }
 
 // The instructions of rule r, in order.
 #[tactic(auto, unfolding(crate::specs::Run::ran_instrs))]
 pub fn run_instrs(
-    book: Book,
-    chains: &[u32],
+    indexed: IndexedBook,
     r: usize,
     batch: &mut Batch,
     run: &mut Execution,
-    bindings: &mut [u32],
+    bindings: &mut [u32; 8192],
 )
-    requires { BookIndex book.words.now (table_count book.words.now) chains.now
-        × (r < rule_count book.words.now) × (length bindings.old ≡ 8192) }
+    requires { r < rule_count indexed.book.words.now }
     ensures is { as_running batch.new run.new bindings.new
-        ≡ ran_instrs book.entry.words.now (rule_first book.entry.words.now r)
-        (get_or book.entry.words.now (rule_first book.entry.words.now r + 1) 0)
+        ≡ ran_instrs indexed.entry.book.words.now (rule_first indexed.entry.book.words.now r)
+        (get_or indexed.entry.book.words.now (rule_first indexed.entry.book.words.now r + 1) 0)
         (as_running batch.old run.old bindings.old) }
     ensures same { SameWords run.old run.new }
 {
-    let words = book.words;
-    let first = contents::first_of(words, book.contents.first_rule() + r);
-    let n = words::size_at(words, first + 1);
+    let book = indexed.book;
+    let first = book.rule(r);
+    let n = words::size_at(book.words, first + 1);
     let mut p = first + 2;
     for _ in 0..n {
-        run_next(book, chains, p, batch, run, bindings);
-        p = instr::next(words, p);
+        run_next(indexed, p, batch, run, bindings);
+        p = instr::next(book.words, p);
     }
 }

@@ -1,9 +1,9 @@
 // Lookups over the lanes of a batch, each with what serves the lanes that it misses.
-ghost use Rattle.std.specs.Prelude.{◌≡◌, ◌≤◌, length};
+ghost use Rattle.std.specs.Prelude.{◌≡◌, option_copied};
 ghost use Rattle.instr.specs.Stands.{Short};
 ghost use Rattle.predicted_index.specs.Row.{Searchable};
 ghost use Rattle.lanes.specs.Lanes.{AskFits};
-ghost use Rattle.predict.specs.Predict.{SameWords};
+ghost use Rattle.predict.specs.Predict.{SameWords, as_asked};
 ghost use Rattle.action.specs.Act.{row_ask, asking, either_lanes, either_words, serving, as_lanes};
 
 use ids::{ColumnId, TableId};
@@ -32,7 +32,8 @@ pub fn predicted_ask(
     default: Entries,
     col: ColumnId,
 ) -> Asking
-    ensures { result ≡ asking words.now table key default col }
+    requires { Short key × Short default }
+    ensures { as_asked result ≡ asking words.now table key default col }
 {
     Asking {
         row: Row {
@@ -46,7 +47,7 @@ pub fn predicted_ask(
 
 // Each lane of the mask asks, and asks otherwise if it is not answered; the lanes that were answered.
 pub fn fill_or_else(view: View, ask: Ask, other: Ask, mask: Mask, out: &mut [u32; 256]) -> Mask
-    requires { AskFits view.words.now view.chains.now ask × AskFits view.words.now view.chains.now other }
+    requires { AskFits view.words.now (option_copied view.chains) ask × AskFits view.words.now (option_copied view.chains) other }
     ensures words { out.new ≡ either_words view.entry.words.now view.entry.bindings.now ask other mask.live out.old }
     ensures lanes { result.live ≡ either_lanes view.entry.words.now view.entry.bindings.now ask other mask.live }
 {
@@ -64,9 +65,9 @@ pub fn lookup_or_insert_default(
     run: &mut Execution,
     out: &mut [u32; 256],
 )
-    requires { Searchable view.words.now view.chains.now ask.row.of × Short ask.key × Short ask.row.vals }
+    requires { Searchable view.words.now (option_copied view.chains) ask.row.of }
     ensures is { as_lanes mask.live run.new out.new
-        ≡ serving view.entry.words.now view.entry.bindings.now ask
+        ≡ serving view.entry.words.now view.entry.bindings.now (as_asked ask)
         (as_lanes mask.live run.old out.old) }
     ensures same { SameWords run.old run.new }
 {

@@ -1,5 +1,5 @@
 -- What is known of the step of entry i of a book that can be read.
-use Rattle.std.specs.Prelude.{ℕ, zero, suc, ◌+◌, ◌*◌, ◌<◌, ◌≤◌, ◌≡◌, refl, List, length, get_or}
+use Rattle.std.specs.Prelude.{ℕ, zero, suc, ◌+◌, ◌*◌, ◌<◌, ◌≤◌, ◌≡◌, refl, List, length, get_or, Option}
 use Rattle.std.proofs.Common.{sym, subst, arith}
 use Rattle.model.specs.Book.Contents.{first_of, end_of, kind_of, first_step, table_count}
 use Rattle.model.specs.Book.Read.{sizes}
@@ -11,7 +11,7 @@ use Rattle.hash_index.specs.Book.{BookIndex}
 use Rattle.predicted_index.specs.Row.{Searchable}
 use Rattle.instr.specs.Stands.{Short}
 use Rattle.action.specs.ActLaws.{searchable}
-use Rattle.step.specs.Steps.{IsStep, lane_count, row_asked}
+use Rattle.step.specs.Steps.{IsStep, Asks, lane_count, row_asked}
 
 pub lane_count_more : (v n : ℕ) → (v ≡ 0 → ⊥) → n ≡ lane_count v n
 lane_count_more zero n h = absurd (h refl)
@@ -52,8 +52,16 @@ module _ {w : List ℕ} (h : Readable w) {i : ℕ} (s : IsStep w i) where
     pub writes_within : at + 2 + get_or w (at + 1) 0 + 1 + 2 * get_or w (at + 2 + get_or w (at + 1) 0) 0 ≤ length w
     writes_within = omega (arith, prediction_facts.fills, body_inside.within)
 
-    pub table_here : {chains : List ℕ} → BookIndex w (table_count w) chains → Searchable w chains (row_asked w at).of
+    pub table_here : {chains : Option (List ℕ)} → BookIndex w (table_count w) chains → Searchable w chains (row_asked w at).of
     table_here {chains} b = searchable w chains h b (record { 0 = get_or w at 0 }) prediction_facts.table
 
     pub writes_short : Short (row_asked w at).vals
     writes_short = (omega (arith, writes_within, h.most), prediction_facts.vals)
+
+    -- so it is a prediction that may be asked
+    pub asks_here : Asks w at
+    asks_here = record { near = body_small; table = prediction_facts.table; key = prediction_facts.keys; vals = writes_short }
+
+-- the table of such a prediction can be searched
+pub asked_table : {w : List ℕ} → Readable w → {at : ℕ} → Asks w at → {chains : Option (List ℕ)} → BookIndex w (table_count w) chains → Searchable w chains (row_asked w at).of
+asked_table {w} h {at} a {chains} b = searchable w chains h b (record { 0 = get_or w at 0 }) a.table

@@ -1,20 +1,20 @@
-// The two kinds of step: a batch runs its rule, a prediction asks for a row. An index of the book's rows is lent, as `chains` or in a `View`, or an empty one for none.
+// The two kinds of step: a batch runs its rule, a prediction asks for a row.
 #![tactic(auto)]
 
-ghost use Rattle.std.specs.Prelude.{◌≡◌, ◌+◌, ◌*◌, ◌≤◌, ◌<◌, length};
-ghost use Rattle.model.specs.Book.Contents.{first_of, kind_of, table_count};
-ghost use Rattle.model.specs.Laws.Book.{Readable};
-ghost use Rattle.hash_index.specs.Book.{BookIndex};
+ghost use Rattle.std.specs.Prelude.{◌≡◌, ◌+◌, ◌*◌, ◌≤◌, ◌<◌};
+ghost use Rattle.model.specs.Book.Contents.{first_of, kind_of};
+ghost use Rattle.execution.specs.Execution.{state_of};
 ghost use Rattle.predict.specs.Predict.{SameWords, as_gotten};
 ghost use Rattle.action.specs.Run.{as_running};
-ghost use Rattle.step.specs.Steps.{IsStep, lane_count, ran_batch, key_asked, asked_row, row_answered};
+ghost use Rattle.step.specs.Steps.{IsStep, Asks, lane_count, ran_batch, row_asked, key_asked, asked_row, row_answered};
 
 use action::Batch;
 use args::Args;
 use bindings::Bindings;
 use bound_vars::Bound;
-use contents::Book;
+use hash_index::IndexedBook;
 use ids::TableId;
+use instr::Entries;
 use lanes::View;
 use mask::Mask;
 use predict::{Execution, Keyed, Row};
@@ -30,20 +30,18 @@ fn lane_count(v: u32, lanes: usize) -> usize
 // The batch of entry i: its own columns, all lanes live, and then its rule.
 #[tactic(auto, unfolding(crate::specs::Steps::ran_batch))]
 pub fn run_batch(
-    book: Book,
-    chains: &[u32],
+    indexed: IndexedBook,
     i: usize,
     run: &mut Execution,
-    bindings: &mut [u32],
+    bindings: &mut [u32; 8192],
 ) -> Batch
-    requires { BookIndex book.words.now (table_count book.words.now) chains.now
-        × IsStep book.words.now i × (kind_of book.words.now i ≡ 4) × (length bindings.old ≡ 8192) }
+    requires { IsStep indexed.book.words.now i × (kind_of indexed.book.words.now i ≡ 4) }
     ensures is { as_running result run.new bindings.new
-        ≡ ran_batch book.entry.words.now (first_of book.entry.words.now i) run.old.state
-        run.old.log.now run.old.index.now }
+        ≡ ran_batch indexed.entry.book.words.now (first_of indexed.entry.book.words.now i)
+        (state_of run.old.state) run.old.state.log.words.now run.old.index.now }
     ensures same { SameWords run.old run.new }
 {
-    let words = book.words;
+    let words = indexed.book.words;
     let at = contents::first_of(words, i);
     let rule = words::size_at(words, at);
     let n = words::size_at(words, at + 1);
@@ -59,60 +57,85 @@ pub fn run_batch(
         bindings: kept,
         mask: Mask::new(lanes),
     };
-    action::run_instrs(book, chains, rule, &mut batch, run, bindings);
+    action::run_instrs(indexed, rule, &mut batch, run, bindings);
     batch
 }
 
-// The key of the prediction of entry i.
-fn key_asked(words: &[u32], i: usize) -> Args
-    requires { Readable words.now × IsStep words.now i × (kind_of words.now i ≡ 5) }
-    ensures { result ≡ key_asked words.now (first_of words.now i) }
-{
-    let at = contents::first_of(words, i);
-    let n = words::size_at(words, at + 1);
-    args::words_at(words, at + 2, n)
+// A prediction of a book: the book, and the first word of the prediction's body.
+#[derive(Clone, Copy)]
+pub struct Prediction<'a, 'i> {
+    pub indexed: IndexedBook<'a, 'i>,
+    pub at: usize,
+    ghost asks: { Asks indexed.book.words.now at },
 }
 
-// The prediction of entry i; whether its row was made. Its write values are constants and counters, so what the bindings hold does not matter.
+impl Prediction<'_, '_> {
+    // Its table.
+    fn table(self) -> Sought
+        ensures { result ≡ (row_asked self.entry.indexed.book.words.now self.entry.at).of }
+    {
+        let words = self.indexed.book.words;
+        Sought::of(words, TableId(words::word(words, self.at)))
+    }
+
+    // Its key.
+    fn key(self) -> Args
+        ensures { result ≡ key_asked self.entry.indexed.book.words.now self.entry.at }
+    {
+        let words = self.indexed.book.words;
+        let n = words::size_at(words, self.at + 1);
+        args::words_at(words, self.at + 2, n)
+    }
+
+    // The write values of a new row.
+    fn vals(self) -> Entries
+        ensures { result ≡ (row_asked self.entry.indexed.book.words.now self.entry.at).vals }
+    {
+        let words = self.indexed.book.words;
+        let n = words::size_at(words, self.at + 1);
+        instr::list_at(words, self.at + 2 + n)
+    }
+}
+
+// A prediction asks for its row; whether the row was made. Its write values are constants and counters, so what the bindings hold does not matter.
 #[tactic(auto, unfolding(crate::specs::Steps::asked_row))]
-pub fn run_prediction(view: View, i: usize, run: &mut Execution) -> bool
-    requires { Readable view.words.now × BookIndex view.words.now (table_count view.words.now) view.chains.now
-        × IsStep view.words.now i × (kind_of view.words.now i ≡ 5) }
+pub fn run_prediction(asked: Prediction, run: &mut Execution, bindings: &[u32]) -> bool
     ensures is { as_gotten result run.new
-        ≡ asked_row view.entry.words.now view.entry.bindings.now (first_of view.entry.words.now i)
-        run.old.state run.old.log.now run.old.index.now }
+        ≡ asked_row asked.entry.indexed.book.words.now bindings.now asked.entry.at
+        (state_of run.old.state) run.old.state.log.words.now run.old.index.now }
     ensures same { SameWords run.old run.new }
 {
-    let words = view.words;
-    let at = contents::first_of(words, i);
-    let n = words::size_at(words, at + 1);
+    let view = View {
+        words: asked.indexed.book.words,
+        chains: asked.indexed.chains,
+        bindings,
+    };
     let row = Row {
-        of: Sought::of(words, TableId(words::word(words, at))),
-        vals: instr::list_at(words, at + 2 + n),
+        of: asked.table(),
+        vals: asked.vals(),
     };
     let want = Keyed {
         row,
-        key: key_asked(words, i),
+        key: asked.key(),
     };
     predict::predict_val(view, want, run)
 }
 
-// The row that it answers, where it stands by now.
+// The row that answers it, where that stands by now.
 #[tactic(auto, unfolding(crate::specs::Steps::row_answered))]
-pub fn row_answered<'a>(
-    words: &'a [u32],
-    log: &'a [u32],
-    chains: &[u32],
-    index: &[u32],
-    i: usize,
-) -> &'a [u32]
-    requires { Readable words.now × BookIndex words.now (table_count words.now) chains.now × IsStep words.now i
-        × (kind_of words.now i ≡ 5) }
-    ensures { result.now ≡ row_answered words.now (first_of words.now i) log.now index.now }
+pub fn row_answered<'a>(asked: Prediction<'a, '_>, log: &'a [u32], index: &[u32]) -> &'a [u32]
+    ensures { result.now ≡ row_answered asked.entry.indexed.book.words.now asked.entry.at log.now index.now }
 {
-    let at = contents::first_of(words, i);
-    let of = Sought::of(words, TableId(words::word(words, at)));
-    let key = key_asked(words, i);
+    let indexed = asked.indexed;
+    let key = asked.key();
+    // lent from a copy, so that the call does not keep all of `key` in memory
     let vals = key.vals;
-    predicted_index::row_of(words, log, chains, index, of, &vals)
+    predicted_index::row_of(
+        indexed.book.words,
+        log,
+        indexed.chains,
+        index,
+        asked.table(),
+        &vals,
+    )
 }

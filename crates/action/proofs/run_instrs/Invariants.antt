@@ -7,7 +7,7 @@ use Rattle.action.proofs.run_instrs.Given as goal
 
 abbrev pub invariant-loop : goal.invariant-loop
 invariant-loop l =
-    let w = l.book.words.now in
+    let w = l.indexed.book.words.now in
     (l.p ≡ place_of w l.r l.counter)
     × SameWords l.initial.run l.run
     × (as_running l.batch l.run l.bindings ≡ iter (λ k. ran_next w (place_of w l.r k)) l.counter (as_running l.initial.batch l.initial.run l.initial.bindings))

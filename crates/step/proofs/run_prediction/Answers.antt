@@ -1,12 +1,17 @@
--- By the calls' contracts row and key are those of `asked_row`, so `predict_val` gives it; `table_here`, `writes_short`, `prediction_facts` let it be called.
+-- By the calls' contracts row and key are those of `asked_row`, so `predict_val` gives it; the list and the key are short (`Asks`), and that the table may be searched is `asked_table`.
 use Rattle.args.specs.Args.{words_at}
-use Rattle.step.specs.StepsLaws.{prediction_facts, table_here, writes_short}
+use Rattle.step.specs.StepsLaws.{asked_table}
 use Rattle.step.proofs.run_prediction.Goals as goal
 
-pub predict_val-requires : goal.predict_val-requires
+pub invariant_of-want-clause-short : goal.invariant_of-want-clause-short
+invariant_of-want-clause-short c = rw c.vals.ensures c.args.asked.asks.vals
+
+pub invariant_of-want-clause-few : goal.invariant_of-want-clause-few
 unfolding words_at
+invariant_of-want-clause-few c = rw c.key.ensures c.args.asked.asks.key
+
+pub predict_val-requires : goal.predict_val-requires
 predict_val-requires c =
-    let q = c.requires in
-    let first = c.first_of-at.ensures.0 in
-    let n = c.size_at-n.ensures.0 in
-    (rw (c.of.ensures, c.word.ensures, first) (table_here q.0 q.2 q.3 q.1), rw (c.list_at.ensures.is, n, first) (writes_short q.0 q.2 q.3), rw c.key_asked.ensures (prediction_facts q.0 q.2 q.3).keys)
+    let a = c.args.asked in
+    let b = a.indexed in
+    rw c.table.ensures (asked_table b.book.readable a.asks b.indexed)
