@@ -29,7 +29,7 @@ use Rattle.commit.specs.CommitLaws.{all_rows, WideTable, whole, row_words_lem, c
 use Rattle.refusal.specs.declared.Refusal.TheVariants.{AnswerFull}
 use Rattle.answer.specs.Sums.{sum, sum_none, sum_suc}
 use Rattle.step_bodies.specs.Runs.{join_snoc, join_append}
-use Rattle.answer.specs.Layout.{step_kind, rows_length, Results, table_of, counter_of, length_of, step_of, log_of, bodies, whole_length, answered, assembled, assembled_length, shape_of, Enough}
+use Rattle.answer.specs.Layout.{step_kind, rows_length, Results, table_of, counter_of, length_of, step_of, log_of, bodies, whole_length, answered, assembled, assembled_length, contents_of, Enough}
 use Rattle.answer.specs.LayoutLaws.{all_sum, steps_sum as entries-sum}
 use Rattle.answer.specs.BodyLaws.{Fits, whole_is, tab_get_or}
 use Rattle.answer.specs.Scratch.{Scratch, scratch_front, scratch_zeros}
@@ -218,7 +218,7 @@ module _ (r : Results) (us : List Table) (s : State) (h : Tabled r.book r.counts
   unfolding whole_length
   k_within =
       let w = r.book in
-      rw (← length_is r us s h g) (omega (arith, many, steps_sum r us s h g, all_sum w r.counts r.lengths (length r.log) (shape_of w), entries-sum w r.counts r.lengths (length r.log) (shape_of w)))
+      rw (← length_is r us s h g) (omega (arith, many, steps_sum r us s h g, all_sum w r.counts r.lengths (length r.log) (contents_of w), entries-sum w r.counts r.lengths (length r.log) (contents_of w)))
 
   pub assembled_is : assembled (with_steps (take k b) r) b ≡ cond (leb (length (answer us s)) (length b)) (answer us s ++ replicate (length b - length (answer us s)) 0) b
   unfolding assembled answered

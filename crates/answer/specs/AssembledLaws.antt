@@ -1,5 +1,5 @@
 -- The answer put together in the words lent for it.
-use Rattle.std.specs.Prelude.{ℕ, zero, suc, ◌+◌, ◌-◌, ◌*◌, ◌<◌, ◌≤◌, ◌≡◌, refl, List, ◌∷◌, ◌++◌, length, set, take, drop, replicate}
+use Rattle.std.specs.Prelude.{ℕ, zero, suc, ◌+◌, ◌-◌, ◌*◌, ◌<◌, ◌≤◌, ◌≡◌, refl, List, ◌∷◌, ◌++◌, length, take, drop, replicate, set}
 use Rattle.std.proofs.Common.{sym, ap, ◌∙◌, append_assoc, arith, length-append, length-drop, take_at, drop_at, drop-drop, length-take-le}
 use Rattle.std.proofs.lemmas.List.Edits.{sets, sets-eq}
 use Rattle.std.proofs.Math.Seq.{length-sets, drop-append-add}
@@ -8,28 +8,21 @@ use Rattle.model.specs.Answer.{lay_out, flag}
 use Rattle.model.specs.Laws.Bodies.{length_part}
 use Rattle.model.specs.Laws.Contents.{contents_ok, all_entries}
 use Rattle.model.specs.Laws.Book.{Readable, few_entries, few_tables, few_counters, few_steps}
-use Rattle.answer.specs.declared.entries.Shape.{Shape}
+use Rattle.contents.specs.declared.Contents.{Contents}
 use Rattle.answer.specs.Sums.{sum, sum_none, sum_suc, sum_agree, sum_fits}
 use Rattle.step_bodies.specs.Runs.{runs, runs_none, length_suc, sets_append}
-use Rattle.answer.specs.Layout.{Entry, rows_length, table_words, Results, bodies, shape_of, body_count, entry_at, entry_words, Small, entry, whole_length, answered, Enough}
+use Rattle.answer.specs.Layout.{Entry, rows_length, table_words, Results, bodies, contents_of, body_count, entry_at, entry_words, entries_words, tables_words, Small, entry, whole_length, answered, Enough}
 use Rattle.answer.specs.LayoutLaws.{at_table, counters_sum, steps_sum, all_sum, length_entries}
 use Rattle.answer.specs.BodyLaws.{Fits, words_are, layout_is}
 
 -- ## Stores into a list
 
-module _ (a E T C L : List ℕ) (n S k p q : ℕ)
-    (first : p ≡ 1 + length E) (second : q ≡ p + length T) (third : S ≡ q + length C) (room : S + k + length L ≤ length a) where
+module _ (a F L : List ℕ) (S k : ℕ) (first : length F ≡ S) (room : S + k + length L ≤ length a) where
   abbrev b : List ℕ
   b = sets a S (take k a)
 
   abbrev D : List ℕ
   D = drop (S + k) a
-
-  abbrev front : List ℕ
-  front = n ∷ E ++ T ++ C
-
-  length_front : length front ≡ S
-  length_front = omega (arith, length-append (E ++ T) C, length-append E T)
 
   length_moved : length (take k a) ≡ k
   length_moved = length-take-le k a (omega arith)
@@ -41,7 +34,29 @@ module _ (a E T C L : List ℕ) (n S k p q : ℕ)
   behind : drop S b ≡ take k a ++ D
   behind = ap (drop S) (b_is ∙ append_assoc (take S a) (take k a) D) ∙ drop_at (take S a) (take k a ++ D) S (length-take-le S a (omega arith))
 
-  puts : sets (sets (sets (set b 0 n) 1 E) p T) q C ≡ sets b 0 front
+  front_is : sets b 0 F ≡ F ++ take k a ++ D
+  front_is =
+      let e : 0 + length F ≡ S = omega arith in
+      sets-eq F b 0 (omega (arith, length-sets a S (take k a)))
+      ∙ ap (λ (i : ℕ). F ++ drop i b) e
+      ∙ ap (λ (x : List ℕ). F ++ x) behind
+      ∙ sym (append_assoc F (take k a) D)
+
+  length_both : length (F ++ take k a) ≡ S + k
+  length_both = omega (arith, length-append F (take k a), length_moved)
+
+  pub stored : sets (sets b 0 F) (S + k) L ≡ F ++ take k a ++ L ++ drop (S + k + length L) a
+  stored =
+      let x = F ++ take k a in
+      let e : S + k + length L ≡ length x + length L = omega (arith, length_both) in
+      ap (λ (y : List ℕ). sets y (S + k) L) front_is
+      ∙ sets-eq L (x ++ D) (S + k) (omega (arith, length-append x D, length_both, length-drop (S + k) a))
+      ∙ rw (take_at x D (S + k) length_both)
+      (ap (λ (i : ℕ). x ++ L ++ drop i (x ++ D)) e ∙ ap (λ (y : List ℕ). x ++ L ++ y) (drop-append-add x D (length L) ∙ drop-drop (length L) (S + k) a))
+
+-- the parts of what stands before the step bodies, put one after the other
+module _ (b E T C : List ℕ) (n p q : ℕ) (first : p ≡ 1 + length E) (second : q ≡ p + length T) where
+  pub puts : sets (sets (sets (set b 0 n) 1 E) p T) q C ≡ sets b 0 (n ∷ E ++ T ++ C)
   puts =
       let f : p ≡ 0 + length (n ∷ E) = omega arith in
       let g : q ≡ 0 + length ((n ∷ E) ++ T) = omega (arith, length-append E T) in
@@ -49,26 +64,6 @@ module _ (a E T C L : List ℕ) (n S k p q : ℕ)
       ∙ ap (λ (x : List ℕ). sets x q C) (sets_append (n ∷ E) T b 0)
       ∙ ap (λ (i : ℕ). sets (sets b 0 ((n ∷ E) ++ T)) i C) g
       ∙ sets_append ((n ∷ E) ++ T) C b 0
-
-  front_is : sets b 0 front ≡ front ++ take k a ++ D
-  front_is =
-      let e : 0 + length front ≡ S = omega (arith, length_front) in
-      sets-eq front b 0 (omega (arith, length_front, length-sets a S (take k a)))
-      ∙ ap (λ (i : ℕ). front ++ drop i b) e
-      ∙ ap (λ (x : List ℕ). front ++ x) behind
-      ∙ sym (append_assoc front (take k a) D)
-
-  length_both : length (front ++ take k a) ≡ S + k
-  length_both = omega (arith, length-append front (take k a), length_front, length_moved)
-
-  pub stored : sets (sets (sets (sets (set b 0 n) 1 E) p T) q C) (S + k) L ≡ front ++ take k a ++ L ++ drop (S + k + length L) a
-  stored =
-      let x = front ++ take k a in
-      let e : S + k + length L ≡ length x + length L = omega (arith, length_both) in
-      ap (λ (y : List ℕ). sets y (S + k) L) (puts ∙ front_is)
-      ∙ sets-eq L (x ++ D) (S + k) (omega (arith, length-append x D, length_both, length-drop (S + k) a))
-      ∙ rw (take_at x D (S + k) length_both)
-      (ap (λ (i : ℕ). x ++ L ++ drop i (x ++ D)) e ∙ ap (λ (y : List ℕ). x ++ L ++ y) (drop-append-add x D (length L) ∙ drop-drop (length L) (S + k) a))
 
 to_the_left : (e t c k l : List ℕ) → e ++ (t ++ c ++ k ++ l) ≡ e ++ t ++ c ++ k ++ l
 to_the_left e t c k l =
@@ -89,29 +84,33 @@ module _ (r : Results) (k : ℕ) (b : List ℕ) (enough : Enough r k b) where
   abbrev w : List ℕ
   w = r.book
 
-  abbrev len : Shape → ℕ → ℕ
+  abbrev len : Contents → ℕ → ℕ
   len z i = (entry_at w r.counts r.lengths (length r.log) z i).length
 
   abbrev tables : ℕ → List ℕ
   tables n = runs (λ t. table_words w r.counts r.rows (sum (rows_length w r.counts) t) t) n
 
-  -- the parts of the whole
-  pub whole_parts : (z : Shape) → z ≡ shape_of w → 1 + 3 * body_count z + sum (len z) (z.tables + z.counters) + k + (1 + length r.log) ≡ whole_length r
-  unfolding whole_length
-  whole_parts z e = rw e (omega (arith, all_sum w r.counts r.lengths (length r.log) (shape_of w), steps_sum w r.counts r.lengths (length r.log) (shape_of w), enough.stepped))
+  -- what stands before the step bodies: how many bodies there are, their entries, the tables and the counters
+  abbrev pub front_words : Contents → List ℕ
+  front_words z = body_count z ∷ entries_words w r.counts r.lengths (length r.log) z (1 + 3 * body_count z) (body_count z) ++ tables_words w r.counts r.rows z.tables ++ take z.counters r.next
 
-  pub whole_sum : (z : Shape) → z ≡ shape_of w → 1 + 3 * body_count z + sum (len z) (body_count z) ≡ whole_length r
+  -- the parts of the whole
+  pub whole_parts : (z : Contents) → z ≡ contents_of w → 1 + 3 * body_count z + sum (len z) (z.tables + z.counters) + k + (1 + length r.log) ≡ whole_length r
+  unfolding whole_length
+  whole_parts z e = rw e (omega (arith, all_sum w r.counts r.lengths (length r.log) (contents_of w), steps_sum w r.counts r.lengths (length r.log) (contents_of w), enough.stepped))
+
+  pub whole_sum : (z : Contents) → z ≡ contents_of w → 1 + 3 * body_count z + sum (len z) (body_count z) ≡ whole_length r
   unfolding whole_length
   whole_sum z e = rw e
 
-  length_table : (t : ℕ) → t < table_count w → length (table_words w r.counts r.rows (sum (rows_length w r.counts) t) t) ≡ len (shape_of w) t
-  length_table t h = omega (arith, ap (λ (x : Entry). x.length) (at_table w r.counts r.lengths (length r.log) (shape_of w) t h), length_part r.rows (sum (rows_length w r.counts) t) (rows_length w r.counts t) (omega (arith, sum_fits (rows_length w r.counts) t (table_count w) h, enough.rows)))
+  length_table : (t : ℕ) → t < table_count w → length (table_words w r.counts r.rows (sum (rows_length w r.counts) t) t) ≡ len (contents_of w) t
+  length_table t h = omega (arith, ap (λ (x : Entry). x.length) (at_table w r.counts r.lengths (length r.log) (contents_of w) t h), length_part r.rows (sum (rows_length w r.counts) t) (rows_length w r.counts t) (omega (arith, sum_fits (rows_length w r.counts) t (table_count w) h, enough.rows)))
 
   -- tables and counters
-  pub front_parts : (z : Shape) → z ≡ shape_of w → length (tables z.tables) + z.counters ≡ sum (len z) (z.tables + z.counters)
-  front_parts z e = rw e (omega (arith, counters_sum w r.counts r.lengths (length r.log) (shape_of w), length_runs (λ t. table_words w r.counts r.rows (sum (rows_length w r.counts) t) t) (table_count w), sum_agree (λ t. length (table_words w r.counts r.rows (sum (rows_length w r.counts) t) t)) (len (shape_of w)) (table_count w) length_table))
+  pub front_parts : (z : Contents) → z ≡ contents_of w → length (tables z.tables) + z.counters ≡ sum (len z) (z.tables + z.counters)
+  front_parts z e = rw e (omega (arith, counters_sum w r.counts r.lengths (length r.log) (contents_of w), length_runs (λ t. table_words w r.counts r.rows (sum (rows_length w r.counts) t) t) (table_count w), sum_agree (λ t. length (table_words w r.counts r.rows (sum (rows_length w r.counts) t) t)) (len (contents_of w)) (table_count w) length_table))
 
-  pub small : Readable w → (z : Shape) → z ≡ shape_of w → Small w r.counts r.lengths (length r.log) z
+  pub small : Readable w → (z : Contents) → z ≡ contents_of w → Small w r.counts r.lengths (length r.log) z
   small h z e = rw e (record {
     tables = few_tables w h;
     counters = few_counters w h;
@@ -124,13 +123,13 @@ module _ (r : Results) (k : ℕ) (b : List ℕ) (enough : Enough r k b) where
 
   module _ (same : r.steps ≡ take k b) (counters : counter_count w ≤ length r.next) (room : whole_length r ≤ length b) where
     k_fits : k ≤ length b
-    k_fits = omega (arith, whole_parts (shape_of w) refl)
+    k_fits = omega (arith, whole_parts (contents_of w) refl)
 
     fits : Fits r
     fits = record { rows = enough.rows; counters = counters; steps = enough.stepped ∙ sym (ap length same ∙ length-take-le k b k_fits) }
 
-    abbrev z : Shape
-    z = shape_of w
+    abbrev z : Contents
+    z = contents_of w
 
     abbrev n : ℕ
     n = body_count z
@@ -162,14 +161,17 @@ module _ (r : Results) (k : ℕ) (b : List ℕ) (enough : Enough r k b) where
     layout : lay_out (bodies r) ≡ (n ∷ E ++ T ++ C) ++ take k b ++ L
     layout = layout_is r fits ∙ rw (words_are r fits, same) (ap (λ (x : List ℕ). n ∷ x) (to_the_left E T C (take k b) L))
 
-    filled : (p : ℕ) → p ≡ 1 + 3 * n + length T → sets (sets (sets (sets (set (sets b S (take k b)) 0 n) 1 E) (1 + 3 * n) T) p C) (S + k) L ≡ lay_out (bodies r) ++ replicate (length b - whole_length r) 0
-    filled p e =
-        stored b E T C L n S k (1 + 3 * n) p (omega (arith, length_E)) e (omega (arith, front_parts z refl, length-take-le (counter_count w) r.next counters)) (omega (arith, whole_parts z refl))
-        ∙ rw (zeros, layout)
+    length_front : length (front_words z) ≡ S
+    length_front = omega (arith, length-append (E ++ T) C, length-append E T, length_E, front_parts z refl, length-take-le (counter_count w) r.next counters)
+
+    filled : sets (sets (sets b S (take k b)) 0 (front_words z)) (S + k) L ≡ lay_out (bodies r) ++ replicate (length b - whole_length r) 0
+    filled = stored b (front_words z) L S k length_front (omega (arith, whole_parts z refl)) ∙ rw (zeros, layout)
 
   -- in the code's terms
-  pub fill_is : (z : Shape) → z ≡ shape_of w → r.steps ≡ take k b → z.counters ≤ length r.next → whole_length r ≤ length b → (p : ℕ) → p ≡ 1 + 3 * body_count z + length (tables z.tables)
-      → sets (sets (sets (sets (set (sets b (1 + 3 * body_count z + sum (len z) (z.tables + z.counters)) (take k b)) 0 (body_count z)) 1 (runs (λ i. entry_words (entry_at w r.counts r.lengths (length r.log) z i) (1 + 3 * body_count z + sum (len z) i)) (body_count z))) (1 + 3 * body_count z) (tables z.tables)) p (take z.counters r.next)) (1 + 3 * body_count z + sum (len z) (z.tables + z.counters) + k) (flag r.changed ∷ r.log)
-      ≡ answered r (length b)
-  unfolding answered
-  fill_is z e same = rw e (filled same)
+  module _ (z : Contents) (e : z ≡ contents_of w) (same : r.steps ≡ take k b) (counters : z.counters ≤ length r.next) (room : whole_length r ≤ length b) where
+    pub front_length : length (front_words z) ≡ 1 + 3 * body_count z + sum (len z) (z.tables + z.counters)
+    front_length = rw e (length_front same (rw e at counters) room)
+
+    pub fill_is : sets (sets (sets b (1 + 3 * body_count z + sum (len z) (z.tables + z.counters)) (take k b)) 0 (front_words z)) (1 + 3 * body_count z + sum (len z) (z.tables + z.counters) + k) (flag r.changed ∷ r.log) ≡ answered r (length b)
+    unfolding answered
+    fill_is = rw e (filled same (rw e at counters) room)

@@ -14,10 +14,10 @@ use Rattle.model.specs.Answer.{Body, contents_from, lay_out, flag}
 use Rattle.model.specs.Laws.Bodies.{length_part}
 use Rattle.model.specs.Laws.Logic.{either}
 use Rattle.model.specs.Laws.Lists.{length_tab, get_or_tab}
-use Rattle.answer.specs.declared.entries.Shape.{Shape}
+use Rattle.contents.specs.declared.Contents.{Contents}
 use Rattle.answer.specs.Sums.{sum, sum_none, sum_suc, sum_fits}
 use Rattle.step_bodies.specs.Runs.{runs, runs_none, runs_suc, join_append}
-use Rattle.answer.specs.Layout.{Entry, rows_length, Results, table_of, counter_of, length_of, step_of, log_of, bodies, shape_of, body_count, entry_words, entry, whole_length}
+use Rattle.answer.specs.Layout.{Entry, rows_length, Results, table_of, counter_of, length_of, step_of, log_of, bodies, contents_of, body_count, entry_words, entry, whole_length}
 use Rattle.answer.specs.LayoutLaws.{at_table, at_counter, at_step, at_log, length_entries}
 
 -- ## The words of bodies, and their contents
@@ -95,8 +95,8 @@ module _ (r : Results) (fits : Fits r) where
   abbrev w : List ℕ
   w = r.book
 
-  abbrev z : Shape
-  z = shape_of w
+  abbrev z : Contents
+  z = contents_of w
 
   abbrev T : List Body
   T = tab (table_of r) (table_count w)

@@ -1,17 +1,16 @@
 -- The answer book by the words that a run and the commit left: its bodies, and their entries by number.
 use Rattle.std.specs.Prelude.{◌≡◌, ℕ, ◌+◌, ◌-◌, ◌*◌, ◌^◌, ◌<◌, ◌≤◌, Bool, cond, List, [], ◌∷◌, ◌++◌, eqb, ltb, leb, length, get_or, take, drop, replicate, Result, Ok, Err}
 use Rattle.model.specs.Basics.{tab}
-use Rattle.model.specs.Book.Contents.{kind_of, first_of, table_count, counter_count, step_count, first_step}
+use Rattle.model.specs.Book.Contents.{kind_of, first_of, table_count, counter_count, rule_count, step_count, first_step}
 use Rattle.model.specs.Book.Decode.{part}
 use Rattle.model.specs.Laws.Book.{width_of}
 use Rattle.model.specs.Answer.{Body, lay_out, flag}
 use Rattle.commit.specs.declared.Committed.{Committed}
-use Rattle.execution.specs.declared.ExecutionState.{ExecutionState}
+use Rattle.execution.specs.Execution.{RunState}
 use Rattle.refusal.specs.declared.Refusal.{Refusal}
 use Rattle.refusal.specs.declared.Refusal.TheVariants.{AnswerFull}
-use Rattle.answer.specs.declared.entries.Shape.{Shape}
-use Rattle.answer.specs.declared.entries.BodyKind.{BodyKind}
-use Rattle.answer.specs.declared.entries.BodyKind.TheVariants.{Table, Counter, Batch, Prediction, Log}
+use Rattle.contents.specs.declared.Contents.{Contents}
+use Rattle.contents.specs.BodyKinds.{kind_number}
 use Rattle.answer.specs.declared.entries.Entry as code
 use Rattle.answer.specs.Sums.{sum}
 use Rattle.step_bodies.specs.Runs.{runs}
@@ -65,10 +64,15 @@ module _ (r : Results) where
 
 -- ## The entries
 
-abbrev pub shape_of : List ℕ → Shape
-shape_of w = record { tables = table_count w; counters = counter_count w; steps = step_count w; first = first_step w }
+-- the contents of the book w
+abbrev pub contents_of : List ℕ → Contents
+contents_of w = record { tables = table_count w; counters = counter_count w; rules = rule_count w; steps = step_count w }
 
-abbrev pub body_count : Shape → ℕ
+-- the book's entry of the first step
+abbrev pub first_of_steps : Contents → ℕ
+first_of_steps z = z.tables + z.counters + z.rules
+
+abbrev pub body_count : Contents → ℕ
 body_count z = z.tables + z.counters + z.steps + 1
 
 -- a body's kind, and how many words it has
@@ -77,22 +81,15 @@ pub record Entry : Type 0 where
   pub length : ℕ
 
 -- what the code has for it
-abbrev pub kind_number : BodyKind → ℕ
-kind_number Table = 1
-kind_number Counter = 2
-kind_number Batch = 6
-kind_number Prediction = 7
-kind_number Log = 8
-
 abbrev pub as_entry : code.Entry → Entry
 as_entry e = record { kind = kind_number e.kind; length = e.length }
 
 -- the kind and the length of body i, where the log has `used` words
-unfoldable pub entry_at : (w counts lengths : List ℕ) (used : ℕ) (z : Shape) (i : ℕ) → Entry
+unfoldable pub entry_at : (w counts lengths : List ℕ) (used : ℕ) (z : Contents) (i : ℕ) → Entry
 entry_at w counts lengths used z i =
     cond (ltb i z.tables) (record { kind = 1; length = 4 + rows_length w counts i })
     (cond (ltb i (z.tables + z.counters)) (record { kind = 2; length = 1 })
-    (cond (ltb i (z.tables + z.counters + z.steps)) (record { kind = step_kind (kind_of w (z.first + (i - (z.tables + z.counters)))); length = get_or lengths (i - (z.tables + z.counters)) 0 })
+    (cond (ltb i (z.tables + z.counters + z.steps)) (record { kind = step_kind (kind_of w (first_of_steps z + (i - (z.tables + z.counters)))); length = get_or lengths (i - (z.tables + z.counters)) 0 })
     (record { kind = 8; length = 1 + used })))
 
 -- an entry of the contents, of a body that begins at the word p
@@ -100,18 +97,18 @@ abbrev pub entry_words : Entry → ℕ → List ℕ
 entry_words e p = e.kind ∷ p ∷ e.length ∷ []
 
 -- how many words the first n bodies have; and the entries of these, the first body beginning at `start`
-abbrev pub bodies_length : (w counts lengths : List ℕ) (used : ℕ) (z : Shape) (n : ℕ) → ℕ
+abbrev pub bodies_length : (w counts lengths : List ℕ) (used : ℕ) (z : Contents) (n : ℕ) → ℕ
 bodies_length w counts lengths used z n = sum (λ i. (entry_at w counts lengths used z i).length) n
 
-abbrev pub entries_words : (w counts lengths : List ℕ) (used : ℕ) (z : Shape) (start n : ℕ) → List ℕ
+abbrev pub entries_words : (w counts lengths : List ℕ) (used : ℕ) (z : Contents) (start n : ℕ) → List ℕ
 entries_words w counts lengths used z start n = runs (λ i. entry_words (entry_at w counts lengths used z i) (start + bodies_length w counts lengths used z i)) n
 
 -- the numbers are so small that no sum of the layout passes a word
-pub record Small (w counts lengths : List ℕ) (used : ℕ) (z : Shape) : Type 0 where
+pub record Small (w counts lengths : List ℕ) (used : ℕ) (z : Contents) : Type 0 where
   pub tables : z.tables ≤ 16
   pub counters : z.counters ≤ 16
   pub steps : z.steps ≤ 64
-  pub first : z.first ≤ 128
+  pub first : first_of_steps z ≤ 128
   pub rows : sum (rows_length w counts) z.tables ≤ 16384
   pub stepped : sum (λ k. get_or lengths k 0) z.steps < 2 ^ 31
   pub logged : used ≤ 16384
@@ -119,10 +116,10 @@ pub record Small (w counts lengths : List ℕ) (used : ℕ) (z : Shape) : Type 0
 -- how many words the whole answer has
 module _ (r : Results) where
   abbrev pub entry : ℕ → Entry
-  entry = entry_at r.book r.counts r.lengths (length r.log) (shape_of r.book)
+  entry = entry_at r.book r.counts r.lengths (length r.log) (contents_of r.book)
 
   unfoldable pub whole_length : ℕ
-  whole_length = 1 + 3 * body_count (shape_of r.book) + sum (λ i. (entry i).length) (body_count (shape_of r.book))
+  whole_length = 1 + 3 * body_count (contents_of r.book) + sum (λ i. (entry i).length) (body_count (contents_of r.book))
 
 -- ## What is left
 
@@ -142,7 +139,7 @@ abbrev pub results_of : (w counts rows next lengths steps : List ℕ) → Bool �
 results_of w counts rows next lengths steps changed log = record { book = w; counts = counts; rows = rows; next = next; lengths = lengths; steps = steps; changed = changed; log = log }
 
 -- n words of step bodies stand at the front of b
-abbrev pub left_by : (w rows log lengths : List ℕ) (n : ℕ) (b : List ℕ) → Committed → ExecutionState → Results
+abbrev pub left_by : (w rows log lengths : List ℕ) (n : ℕ) (b : List ℕ) → Committed → RunState → Results
 left_by w rows log lengths n b done state = results_of w done.counts rows state.counters.next lengths (take n b) state.changed (take state.used log)
 
 -- the rows are there; n words of step bodies stand at the front of b, if b has as many, and then zeros; the numbers are small

@@ -1,15 +1,20 @@
 -- The entries of the answer by number: which is which, and how many words the bodies have.
-use Rattle.std.specs.Prelude.{ℕ, zero, suc, ◌+◌, ◌*◌, ◌^◌, ◌<◌, ◌≤◌, ◌≡◌, List, length, get_or}
+use Rattle.std.specs.Prelude.{ℕ, zero, suc, ◌+◌, ◌*◌, ◌^◌, ◌<◌, ◌≤◌, ◌≡◌, refl, List, length, get_or}
 use Rattle.std.proofs.Common.{ap, ◌∙◌, arith}
 use Rattle.std.proofs.Math.Nat.{add-sub_cancel_left}
 use borrow.Author.Tests.{lt-ltb, le-ltb}
 use Rattle.model.specs.Book.Contents.{kind_of}
-use Rattle.answer.specs.declared.entries.Shape.{Shape}
+use Rattle.contents.specs.declared.Contents.{Contents}
+use Rattle.contents.specs.Contents.{ContentsOf}
 use Rattle.answer.specs.Sums.{sum, sum_suc, sum_agree, sum_le, sum_fits, sum_split, sum_const, sum_more}
 use Rattle.step_bodies.specs.Runs.{runs, runs_none, length_suc}
-use Rattle.answer.specs.Layout.{Entry, step_kind, rows_length, body_count, entry_at, entry_words, Small}
+use Rattle.answer.specs.Layout.{Entry, step_kind, rows_length, contents_of, first_of_steps, body_count, entry_at, entry_words, entries_words, Small}
 
-module _ (w counts lengths : List ℕ) (used : ℕ) (z : Shape) where
+-- the contents that the code answers
+pub contents_is : {w : List ℕ} {c : Contents} → ContentsOf w c → c ≡ contents_of w
+contents_is h = rw (← h.tables, ← h.counters, ← h.rules, ← h.steps) refl
+
+module _ (w counts lengths : List ℕ) (used : ℕ) (z : Contents) where
   abbrev e : ℕ → Entry
   e i = entry_at w counts lengths used z i
 
@@ -24,7 +29,7 @@ module _ (w counts lengths : List ℕ) (used : ℕ) (z : Shape) where
   unfolding entry_at
   at_counter c h = rw (le-ltb (z.tables + c) z.tables (omega arith), lt-ltb (z.tables + c) (z.tables + z.counters) (omega arith))
 
-  pub at_step : (k : ℕ) → k < z.steps → e (z.tables + z.counters + k) ≡ record { kind = step_kind (kind_of w (z.first + k)); length = get_or lengths k 0 }
+  pub at_step : (k : ℕ) → k < z.steps → e (z.tables + z.counters + k) ≡ record { kind = step_kind (kind_of w (first_of_steps z + k)); length = get_or lengths k 0 }
   unfolding entry_at
   at_step k h =
       let i = z.tables + z.counters + k in
@@ -67,3 +72,6 @@ module _ (w counts lengths : List ℕ) (used : ℕ) (z : Shape) where
 pub length_entries : (f : ℕ → Entry) (p : ℕ → ℕ) (n : ℕ) → length (runs (λ i. entry_words (f i) (p i)) n) ≡ 3 * n
 length_entries f p zero = ap length (runs_none (λ i. entry_words (f i) (p i)))
 length_entries f p (suc n) = omega (arith, length_suc (λ i. entry_words (f i) (p i)) n, length_entries f p n)
+
+pub length_entries_words : (w counts lengths : List ℕ) (used : ℕ) (z : Contents) (start n : ℕ) → length (entries_words w counts lengths used z start n) ≡ 3 * n
+length_entries_words w counts lengths used z start n = length_entries (entry_at w counts lengths used z) (λ i. start + sum (λ i. (entry_at w counts lengths used z i).length) i) n

@@ -1,23 +1,15 @@
 -- The front of the answer's words while the steps run: the words ws of the bodies so far, and then zeros; or they have no room.
-use Rattle.std.specs.Prelude.{ℕ, ◌+◌, ◌-◌, ◌≤◌, ◌≡◌, refl, Bool, true, false, cond, List, [], ◌++◌, leb, length, take, drop, replicate}
+use Rattle.std.specs.Prelude.{ℕ, ◌+◌, ◌-◌, ◌≤◌, ◌≡◌, refl, List, [], ◌++◌, length, take, drop, replicate}
 use Rattle.std.proofs.Common.{sym, ap, ◌∙◌, arith, length-append, take_at, drop_at}
 use Rattle.std.proofs.lemmas.List.{length-replicate}
-use Rattle.std.proofs.lemmas.List.Edits.{sets, sets-eq}
-use Rattle.std.proofs.Math.Seq.{length-sets, drop-append-add}
+use Rattle.std.proofs.lemmas.List.Edits.{sets-eq}
+use Rattle.std.proofs.Math.Seq.{drop-append-add}
 use Rattle.step_bodies.specs.Steps.{placed}
-use Rattle.step_bodies.specs.StepLaws.{placed_fits}
+use Rattle.step_bodies.specs.StepLaws.{placed_fits, length_placed}
 use Rattle.answer.specs.AssembledLaws.{drop_zeros}
 
 pub record Scratch (ws b : List ℕ) : Type 0 where
   pub stand : length ws ≤ length b → b ≡ ws ++ replicate (length b - length ws) 0
-
-pub length_placed : (l : List ℕ) (at : ℕ) (b : List ℕ) → length (placed l at b) ≡ length b
-unfolding placed
-length_placed l at b = by (leb (at + length l) (length b))
-  where
-    by : (c : Bool) → length (cond c (sets b at l) b) ≡ length b
-    by true = length-sets b at l
-    by false = refl
 
 -- before the first step
 pub scratch_none : (n : ℕ) → Scratch [] (replicate n 0)

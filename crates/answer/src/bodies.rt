@@ -1,72 +1,54 @@
 // The bodies of tables and of the log.
-ghost use Rattle.std.specs.Prelude.{◌≡◌, ◌∷◌, ◌+◌, ◌<◌, ◌≤◌, length, take};
-ghost use Rattle.std.proofs.lemmas.List.Edits.{sets};
+ghost use Rattle.std.specs.Prelude.{◌∷◌, ◌+◌, ◌<◌, ◌≤◌, length};
 ghost use Rattle.model.specs.Answer as model;
+ghost use Rattle.step_bodies.specs.Page.{Appends, Room};
 ghost use Rattle.answer.specs.Sums.{sum};
 ghost use Rattle.answer.specs.Layout.{rows_length, table_words, tables_words};
 
-use crate::entries;
+use crate::entries::Sizes;
 use ids::TableId;
-use step_bodies::put;
+use step_bodies::Page;
 
-// A table, whose rows stand at the word `from` of `rows`; and the word past it.
-fn write_table(
-    words: &[u32],
-    counts: &[u32],
-    rows: &[u32],
-    from: usize,
-    table: TableId,
-    at: usize,
-    answer: &mut [u32],
-) -> usize
-    requires { (table.0 < 16) × (rows_length words.now counts.now table.0 ≤ 16384)
-        × (from + rows_length words.now counts.now table.0 ≤ length rows.now)
-        × (at + length (table_words words.now counts.now rows.now from table.0) ≤ length answer.old) }
-    ensures words { answer.new ≡ sets answer.old at
-        (table_words words.now counts.now rows.now from table.0) }
-    ensures end { result ≡ at + length (table_words words.now counts.now rows.now from table.0) }
-{
-    let t = usize::from(table);
-    let body = contents::first_of(words, t);
-    let n = entries::rows_length(words, counts, table);
-    answer[at] = words::word(words, body);
-    answer[at + 1] = words::word(words, body + 1);
-    answer[at + 2] = words::word(words, body + 2);
-    answer[at + 3] = words::word(counts, t);
-    put::write(&rows[from..from + n], at + 4, answer)
-}
-
-// The first n tables, whose rows stand in `rows` one table after the other; and the word past them.
-pub fn write_tables(
-    words: &[u32],
-    counts: &[u32],
-    rows: &[u32],
-    n: usize,
-    start: usize,
-    answer: &mut [u32],
-) -> usize
-    requires { (n ≤ 16) × (sum (rows_length words.now counts.now) n ≤ 16384)
-        × (sum (rows_length words.now counts.now) n ≤ length rows.now)
-        × (start + length (tables_words words.now counts.now rows.now n) ≤ length answer.old) }
-    ensures words { answer.new
-        ≡ sets answer.old start (tables_words words.now counts.now rows.now n) }
-    ensures end { result ≡ start + length (tables_words words.now counts.now rows.now n) }
-{
-    let mut from = 0;
-    let mut at = start;
-    for t in 0..n {
-        let table = TableId(t as u32);
-        at = write_table(words, counts, rows, from, table, at, answer);
-        from += entries::rows_length(words, counts, table);
+impl Sizes<'_> {
+    // A table, whose rows stand at the word `from` of `rows`.
+    fn write_table(self, rows: &[u32], from: usize, table: TableId, page: &mut Page)
+        requires { (table.0 < self.contents.tables)
+            × (from + rows_length self.words.now self.counts.now table.0 ≤ length rows.now)
+            × Room page.old (length (table_words self.words.now self.counts.now rows.now from table.0)) }
+        ensures { Appends page.old page.new
+            (table_words self.entry.words.now self.entry.counts.now rows.now from table.0) }
+    {
+        let t = usize::from(table);
+        let body = contents::first_of(self.words, t);
+        let n = self.rows_length(table);
+        page.push(words::word(self.words, body));
+        page.push(words::word(self.words, body + 1));
+        page.push(words::word(self.words, body + 2));
+        page.push(words::word(self.counts, t));
+        page.write(&rows[from..from + n]);
     }
-    at
+
+    // The tables, whose rows stand in `rows` one table after the other.
+    pub fn write_tables(self, rows: &[u32], page: &mut Page)
+        requires { (sum (rows_length self.words.now self.counts.now) self.contents.tables ≤ length rows.now)
+            × Room page.old (length (tables_words self.words.now self.counts.now rows.now self.contents.tables)) }
+        ensures { Appends page.old page.new
+            (tables_words self.entry.words.now self.entry.counts.now rows.now self.entry.contents.tables) }
+    {
+        let mut from = 0;
+        for t in 0..self.contents.table_count() {
+            let table = TableId(t as u32);
+            self.write_table(rows, from, table, page);
+            from += self.rows_length(table);
+        }
+    }
 }
 
 // The changed flag and the words of the log's records.
-pub fn write_log(changed: bool, log: &[u32], at: usize, answer: &mut [u32])
-    requires { at + 1 + length log.now ≤ length answer.old }
-    ensures { answer.new ≡ sets answer.old at (model.flag changed ∷ log.now) }
+pub fn write_log(changed: bool, log: &[u32], page: &mut Page)
+    requires { Room page.old (1 + length log.now) }
+    ensures { Appends page.old page.new (model.flag changed ∷ log.now) }
 {
-    answer[at] = u32::from(changed);
-    put::write(log, at + 1, answer);
+    page.push(u32::from(changed));
+    page.write(log);
 }

@@ -1,3 +1,4 @@
 pub mod Runs
 pub mod Steps
 pub mod StepLaws
+pub mod Page

@@ -1,6 +1,6 @@
 -- The words of a step's body against the model's, and how many there are.
 use Prim.Native.Nat.{ℕ, zero, suc, ◌+◌, ◌*◌, ◌<◌, ◌≤◌}
-use Rattle.std.specs.Prelude.{◌≡◌, Bool, true, false, List, [], ◌∷◌, map, Option, None, Some}
+use Rattle.std.specs.Prelude.{◌≡◌, Bool, true, false, cond, leb, List, [], ◌∷◌, map, Option, None, Some}
 use Rattle.std.proofs.Math.Path.{refl}
 use Rattle.std.proofs.Common.{sym, ap, ◌∙◌, append-nil, suc-mul, mul-le-mul_right, le-leb, ext_get_or}
 use native.Mathlib.Omega.{arith}
@@ -8,6 +8,8 @@ use Rattle.std.proofs.lemmas.Bool.{lt-leb}
 use Rattle.std.proofs.Math.ListN.{length, get_or, length-append, get_or-map}
 use Rattle.std.proofs.lemmas.List.{length-map}
 use Rattle.std.proofs.lemmas.List.Edits.{sets}
+use Rattle.std.proofs.Math.Seq.{length-sets}
+use Rattle.std.specs.Int.{from_bool}
 use Rattle.model.specs.Basics.{tab, how_many, when, found, join}
 use Rattle.model.specs.Book.Decode.{part}
 use Rattle.model.specs.Machine.State.{Bindings, survivors, predicted}
@@ -29,6 +31,19 @@ module _ (l : List ℕ) (at : ℕ) (b : List ℕ) where
   pub placed_not : length b < at + length l → b ≡ placed l at b
   unfolding placed
   placed_not h = rw (lt-leb _ _ h)
+
+  pub length_placed : length (placed l at b) ≡ length b
+  unfolding placed
+  length_placed = by (leb (at + length l) (length b))
+    where
+      by : (c : Bool) → length (cond c (sets b at l) b) ≡ length b
+      by true = length-sets b at l
+      by false = refl
+
+-- a word that says whether a lane is live
+pub flag_word : (b : Bool) → from_bool b ≡ flag b
+flag_word true = refl
+flag_word false = refl
 
 -- ## How many words a batch's body has
 

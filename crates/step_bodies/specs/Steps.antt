@@ -15,9 +15,13 @@ placed l at b = cond (leb (at + length l) (length b)) (sets b at l) b
 abbrev pub prediction_words : Bool → List ℕ → List ℕ
 prediction_words made row = flag made ∷ row
 
--- variable v with its column, if it is bound; m is the memory of the bindings
+-- variable v with its column; m is the memory of the bindings
+abbrev pub bound_words : List ℕ → ℕ → ℕ → List ℕ
+bound_words m lanes v = v ∷ part m (256 * v) lanes
+
+-- the same, if it is bound
 abbrev pub column_words : List ℕ → ℕ → Bool → ℕ → List ℕ
-column_words m lanes known v = cond known (v ∷ part m (256 * v) lanes) []
+column_words m lanes known v = cond known (bound_words m lanes v) []
 
 -- each bound variable and its column, smallest first
 abbrev pub columns_words : List ℕ → ℕ → List Bool → List ℕ

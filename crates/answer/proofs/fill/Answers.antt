@@ -1,52 +1,47 @@
 -- `whole_parts` and `front_parts` say where each part stands, so each write has room; all writes, one after the other, leave the answer and zeros (`fill_is`).
-use Rattle.answer.specs.AssembledLaws.{whole_parts, front_parts, fill_is}
-use Rattle.answer.specs.Layout.{rows_length, table_words, results_of, body_count, bodies_length}
-use Rattle.step_bodies.specs.Runs.{runs}
-use Rattle.answer.specs.Sums.{sum}
+use Rattle.std.proofs.Common.{◌≡◌, ◌∙◌, ◌-◌, ◌+◌, ◌*◌, ◌≤◌, ℕ, List, length, take, refl, sym, arith, length-take-le}
 use Rattle.std.specs.List.{copy_within}
 use Rattle.std.proofs.lemmas.List.Edits.{sets, sets-eq}
-use mathlib.Core.List.{List}
-use lib.Seq.{length-take-le}
-use lib.ListN.{length, take, length-set}
-use native.Mathlib.Omega.{arith}
-use mathlib.Core.Path.{◌≡◌, ◌∙◌, sym, refl}
-use Prim.Native.Nat.{ℕ, ◌-◌, ◌+◌, ◌*◌, ◌≤◌}
+use Rattle.answer.specs.AssembledLaws.{whole_parts, front_parts, front_length, fill_is}
+use Rattle.answer.specs.Layout.{Results, rows_length, results_of, body_count, bodies_length, tables_words}
+use Rattle.answer.specs.LayoutLaws.{contents_is, length_entries_words}
+use Rattle.answer.specs.Sums.{sum}
+use Rattle.step_bodies.specs.Page.{appends_more, appends_size, appends_same}
 use Rattle.answer.proofs.fill.Goals as goal
-use Rattle.answer.proofs.fill.Goals.{After-length_of-before, After-write_entries, After-write_tables-p}
+use Rattle.answer.proofs.fill.Goals.{After-length_of-before, After-push, After-write_entries, After-write_tables}
+
+abbrev results : After-length_of-before → Results
+results c =
+    let a = c.args in
+    results_of a.sizes.words.now a.sizes.counts.now a.rows.now a.next.now a.sizes.lengths.now (take a.page.now.at a.page.now.words.now) a.changed a.log.now
 
 -- how many words stand before the step bodies
-before_is : (c : After-length_of-before) → c.length_of-before.result ≡ bodies_length c.args.sizes.words.now c.args.sizes.counts.now c.args.sizes.lengths.now (length c.args.log.now) c.args.sizes.shape (c.args.sizes.shape.tables + c.args.sizes.shape.counters)
+before_is : (c : After-length_of-before) → c.length_of-before.result ≡ bodies_length c.args.sizes.words.now c.args.sizes.counts.now c.args.sizes.lengths.now (length c.args.log.now) c.args.sizes.contents (c.args.sizes.contents.tables + c.args.sizes.contents.counters)
 before_is c =
     let pre = c.requires in
-    c.length_of-before.ensures ∙ rw pre.1
+    c.length_of-before.ensures ∙ rw (pre.0, c.table_count-tables.ensures, c.counter_count-counters.ensures)
 
 -- where the parts stand, in the code's numbers
-whole : (c : After-length_of-before) → 1 + 3 * body_count c.args.sizes.shape + c.length_of-before.result + c.args.scratch + (1 + length c.args.log.now) ≤ length c.args.answer.now
+whole : (c : After-length_of-before) → 1 + 3 * body_count c.args.sizes.contents + c.length_of-before.result + c.args.page.now.at + (1 + length c.args.log.now) ≤ length c.args.page.now.words.now
 whole c =
-    let a = c.args in
     let p = c.requires in
-    rw (before_is c, whole_parts (results_of a.sizes.words.now a.sizes.counts.now a.rows.now a.next.now a.sizes.lengths.now (take a.scratch a.answer.now) a.changed a.log.now) a.scratch a.answer.now p.3 a.sizes.shape p.0) p.4
+    rw (before_is c, whole_parts (results c) c.args.page.now.at c.args.page.now.words.now p.2 c.args.sizes.contents (contents_is c.args.sizes.contained)) p.3
 
-front : (c : After-length_of-before) → length (runs (λ t. table_words c.args.sizes.words.now c.args.sizes.counts.now c.args.rows.now (sum (rows_length c.args.sizes.words.now c.args.sizes.counts.now) t) t) c.args.sizes.shape.tables) + c.args.sizes.shape.counters ≡ c.length_of-before.result
+front : (c : After-length_of-before) → length (tables_words c.args.sizes.words.now c.args.sizes.counts.now c.args.rows.now c.args.sizes.contents.tables) + c.args.sizes.contents.counters ≡ c.length_of-before.result
 front c =
-    let pre = c.requires in
+    let p = c.requires in
+    front_parts (results c) c.args.page.now.at c.args.page.now.words.now p.2 c.args.sizes.contents (contents_is c.args.sizes.contained) ∙ sym (before_is c)
+
+-- where the next word goes, and that no call changes how many words are lent
+pushed : (c : After-push) → (c.push.new.self.at ≡ 1) × (length c.push.new.self.words.now ≡ length c.args.page.now.words.now)
+pushed c = (c.push.ensures.at, appends_size c.push.ensures ∙ c.copy_within.ensures.len)
+
+entered : (c : After-write_entries) → (c.push.new.self.at ≡ 1) × (length c.push.new.self.words.now ≡ length c.args.page.now.words.now) → (c.write_entries.new.page.at ≡ 1 + 3 * body_count c.args.sizes.contents) × (length c.write_entries.new.page.words.now ≡ length c.args.page.now.words.now)
+entered c h =
     let a = c.args in
-    front_parts (results_of a.sizes.words.now a.sizes.counts.now a.rows.now a.next.now a.sizes.lengths.now (take a.scratch a.answer.now) a.changed a.log.now) a.scratch a.answer.now pre.3 a.sizes.shape pre.0 ∙ sym (before_is c)
-
--- no call changes how many words are lent
-after_entries : (c : After-write_entries) → length c.write_entries.new.answer ≡ length c.args.answer.now
-after_entries c =
-    let copied = c.copy_within in
-    c.write_entries.auto.answer ∙ simp length-set copied.ensures.len
-
-after_tables : (c : After-write_tables-p) → length c.write_entries.new.answer ≡ length c.args.answer.now → length c.write_tables-p.new.answer ≡ length c.args.answer.now
-after_tables c h = c.write_tables-p.auto.answer ∙ h
-
--- the words that are copied, as they are set
-copied_is : (l : List ℕ) (n d : ℕ) → d + n ≤ length l → copy_within l 0 n d ≡ sets l d (take n l)
-copied_is l n d h =
-    let z : n - 0 ≡ n = omega arith in
-    rw z (sym (sets-eq (take n l) l d (omega (arith, length-take-le n l (omega arith))) ∙ rw (length-take-le n l (omega arith))))
+    let s = a.sizes in
+    let w = c.write_entries.ensures in
+    (omega (arith, w.at, h.0, c.bodies-n.ensures, length_entries_words s.words.now s.counts.now s.lengths.now s.used s.contents (1 + 3 * c.bodies-n.result) c.bodies-n.result), appends_size w ∙ h.1)
 
 pub overflow_add-first-2 : goal.overflow_add-first-2
 overflow_add-first-2 c =
@@ -56,53 +51,72 @@ overflow_add-first-2 c =
 pub copy_within-requires : goal.copy_within-requires
 copy_within-requires c = omega (arith, whole (goal.at.copy_within-requires c).After-length_of-before)
 
-pub bounds-answer-0 : goal.bounds-answer-0
-bounds-answer-0 c = omega (arith, c.copy_within.ensures.len, whole (goal.at.bounds-answer-0 c).After-length_of-before)
+pub push-requires : goal.push-requires
+push-requires c = omega (arith, c.copy_within.ensures.len, whole (goal.at.push-requires c).After-length_of-before)
 
 pub write_entries-requires : goal.write_entries-requires
 write_entries-requires c =
     let s = c.args.sizes.small in
-    (omega arith, omega (arith, s.tables, s.counters, s.steps), simp length-set (omega (arith, c.copy_within.ensures.len, whole (goal.at.write_entries-requires c).After-length_of-before)))
+    (omega arith, omega (arith, s.tables, s.counters, s.steps), omega (arith, pushed (goal.at.write_entries-requires c).After-push, whole (goal.at.write_entries-requires c).After-length_of-before))
 
-pub write_tables-p-requires : goal.write_tables-p-requires
-write_tables-p-requires c =
+pub write_tables-requires : goal.write_tables-requires
+write_tables-requires c =
     let a = c.args in
     let p = c.requires in
-    let h : sum (rows_length a.sizes.words.now a.sizes.counts.now) a.sizes.shape.tables ≤ length a.rows.now = rw p.0 p.3.rows in
-    (a.sizes.small.tables, a.sizes.small.rows, h, omega (arith, front (goal.at.write_tables-p-requires c).After-length_of-before, whole (goal.at.write_tables-p-requires c).After-length_of-before, after_entries (goal.at.write_tables-p-requires c).After-write_entries))
+    let h : sum (rows_length a.sizes.words.now a.sizes.counts.now) a.sizes.contents.tables ≤ length a.rows.now = rw (contents_is a.sizes.contained) p.2.rows in
+    let at = goal.at.write_tables-requires c in
+    (h, omega (arith, entered at.After-write_entries (pushed at.After-push), front at.After-length_of-before, whole at.After-length_of-before))
 
 pub write-requires : goal.write-requires
 write-requires c =
-    let pre = c.requires in
-    let write-tables = c.write_tables-p in
     let a = c.args in
-    let h : length (take a.sizes.shape.counters a.next.now) ≡ a.sizes.shape.counters = length-take-le a.sizes.shape.counters a.next.now pre.2 in
-    omega (arith, h, write-tables.ensures.end, front (goal.at.write-requires c).After-length_of-before, whole (goal.at.write-requires c).After-length_of-before, after_tables (goal.at.write-requires c).After-write_tables-p (after_entries (goal.at.write-requires c).After-write_entries))
+    let n = c.counter_count-counters in
+    let h : length (take n.result a.next.now) ≡ n.result = length-take-le n.result a.next.now (omega (arith, n.ensures, c.requires.1)) in
+    let at = goal.at.write-requires c in
+    omega (arith, n.ensures, h, c.write_tables.ensures.at, appends_size c.write_tables.ensures, entered at.After-write_entries (pushed at.After-push), front at.After-length_of-before, whole at.After-length_of-before)
 
-pub overflow_add-first-3 : goal.overflow_add-first-3
-overflow_add-first-3 c =
+pub overflow_add-page : goal.overflow_add-page
+overflow_add-page c =
+    let a = c.args in
     let good = c.well_formed in
-    omega (arith, whole (goal.at.overflow_add-first-3 c).After-length_of-before, good)
-
-pub overflow_add-first-4 : goal.overflow_add-first-4
-overflow_add-first-4 c =
-    let good = c.well_formed in
-    omega (arith, whole (goal.at.overflow_add-first-4 c).After-length_of-before, good)
+    let n = c.counter_count-counters in
+    let h : length (take n.result a.next.now) ≡ n.result = length-take-le n.result a.next.now (omega (arith, n.ensures, c.requires.1)) in
+    let at = goal.at.overflow_add-page c in
+    omega (arith, n.ensures, good, h, c.write.ensures.at, c.write_tables.ensures.at, entered at.After-write_entries (pushed at.After-push), front at.After-length_of-before, whole at.After-length_of-before)
 
 pub write_log-requires : goal.write_log-requires
 write_log-requires c =
-    omega (arith, whole (goal.at.write_log-requires c).After-length_of-before, c.write.auto.answer, after_tables (goal.at.write_log-requires c).After-write_tables-p (after_entries (goal.at.write_log-requires c).After-write_entries))
+    let a = c.args in
+    let n = c.counter_count-counters in
+    let h : length (take n.result a.next.now) ≡ n.result = length-take-le n.result a.next.now (omega (arith, n.ensures, c.requires.1)) in
+    let at = goal.at.write_log-requires c in
+    omega (arith, n.ensures, h, c.write.ensures.at, appends_size c.write.ensures, c.write_tables.ensures.at, appends_size c.write_tables.ensures, entered at.After-write_entries (pushed at.After-push), front at.After-length_of-before, whole at.After-length_of-before)
+
+-- the words that are copied, as they are set
+copied_is : (l : List ℕ) (n d : ℕ) → d + n ≤ length l → copy_within l 0 n d ≡ sets l d (take n l)
+copied_is l n d h =
+    let z : n - 0 ≡ n = omega arith in
+    rw z (sym (sets-eq (take n l) l d (omega (arith, length-take-le n l (omega arith))) ∙ rw (length-take-le n l (omega arith))))
 
 pub returns : goal.returns
 returns c =
-    let copied = c.copy_within in
-    let write_entries = c.write_entries in
-    let write-tables = c.write_tables-p in
-    let write = c.write in
     let a = c.args in
     let p = c.requires in
-    let d : ℕ = 1 + 3 * c.bodies-n.result + c.length_of-before.result in
-    let room : d + a.scratch ≤ length a.answer.now = omega (arith, whole (goal.at.returns c).After-length_of-before, c.bodies-n.ensures) in
-    c.write_log.ensures
-    ∙ rw (write.ensures.words, write-tables.ensures.words, write_entries.ensures, copied.ensures.after, copied_is a.answer.now a.scratch d room, before_is (goal.at.returns c).After-length_of-before, c.bodies-n.ensures, p.1)
-    (fill_is (results_of a.sizes.words.now a.sizes.counts.now a.rows.now a.next.now a.sizes.lengths.now (take a.scratch a.answer.now) a.changed a.log.now) a.scratch a.answer.now p.3 a.sizes.shape p.0 refl p.2 p.4 write-tables.result (write-tables.ensures.end ∙ rw c.bodies-n.ensures))
+    let s = a.sizes in
+    let z = s.contents in
+    let e = contents_is s.contained in
+    let b = a.page.now.words.now in
+    let k = a.page.now.at in
+    let at = goal.at.returns c in
+    let r : Results = results at.After-length_of-before in
+    let S : ℕ = 1 + 3 * body_count z + bodies_length s.words.now s.counts.now s.lengths.now (length a.log.now) z (z.tables + z.counters) in
+    let room : S + k ≤ length b = omega (arith, before_is at.After-length_of-before, whole at.After-length_of-before) in
+    let all = rw (c.bodies-n.ensures, p.0, c.counter_count-counters.ensures) at (appends_more (appends_more (appends_more c.push.ensures c.write_entries.ensures) c.write_tables.ensures) c.write.ensures) in
+    let moved : c.copy_within.new.self ≡ sets b S (take k b) = c.copy_within.ensures.after ∙ rw (before_is at.After-length_of-before, c.bodies-n.ensures) (copied_is b k S room) in
+    let there : c.write.new.self.at ≡ S = omega (arith, all.at, front_length r k b p.2 z e refl p.1 p.3) in
+    let is = fill_is r k b p.2 z e refl p.1 p.3 in
+    let last = appends_same c.write_log.ensures in
+    record {
+      same = record { words = last.words ∙ all.same_words; size = last.size ∙ appends_size all ∙ c.copy_within.ensures.len };
+      words = c.write_log.ensures.words ∙ rw (there, all.words, moved) is;
+    }

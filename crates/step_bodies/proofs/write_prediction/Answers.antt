@@ -1,22 +1,14 @@
--- By the test: without room nothing is written (`placed_not`); with room flag and row, stored one after the other, are one store (`put_cons`, `placed_fits`).
-use Rattle.std.proofs.Common.{◌≡◌}
-use Rattle.std.specs.Int.{from_bool}
-use Rattle.model.specs.Answer.{flag}
-use Rattle.step_bodies.specs.StepLaws.{placed_fits, placed_not}
-use Rattle.step_bodies.specs.Steps.{prediction_words}
-use Rattle.step_bodies.specs.Runs.{put_cons}
-use native.Mathlib.Omega.{arith}
-use mathlib.Core.Path.{◌∙◌}
+-- By the test: without room nothing is written (`places_out`); with room flag and row are put there (`appends_more`, `places_fit`).
+use Rattle.std.proofs.Common.{◌∷◌, ℕ, ap, ◌∙◌, arith}
+use Rattle.step_bodies.specs.StepLaws.{flag_word}
+use Rattle.step_bodies.specs.Page.{places_out, places_fit, appends_is, appends_more}
 use Rattle.step_bodies.proofs.write_prediction.Goals as goal
 
-pub returns-then-answer-end : goal.returns-then-answer-end
-returns-then-answer-end c =
-    let a = c.args in
-    record { words = placed_not (prediction_words a.made a.row.now) a.at a.answer.now (omega (arith, c.if-answer-end.true)); end = omega arith }
+pub returns-then-page-end : goal.returns-then-page-end
+returns-then-page-end c = places_out (omega arith) c.if-page-end.true
 
 pub returns : goal.returns
 returns c =
-    let if1 = c.if-answer-end in
     let a = c.args in
-    let e : from_bool a.made ≡ flag a.made = grind arith in
-    let w = c.write.ensures in record { words = w.words ∙ rw (c.from.ensures, e) (put_cons (flag a.made) a.row.now a.answer.now a.at) ∙ placed_fits (prediction_words a.made a.row.now) a.at a.answer.now (omega (arith, if1.false)); end = omega (arith, w.end) }
+    let e = c.from.ensures ∙ flag_word a.made in
+    places_fit (omega arith) (appends_is (ap (λ (x : ℕ). x ∷ a.row.now) e) (appends_more c.push.ensures c.write.ensures))

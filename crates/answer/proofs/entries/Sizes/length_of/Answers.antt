@@ -20,13 +20,13 @@ pub sum-requires-clause-fits : goal.sum-requires-clause-fits
 sum-requires-clause-fits c =
     let a = c.args in
     let s = a.self in
-    let f : ℕ → ℕ = λ (i : ℕ). (entry_at s.words.now s.counts.now s.lengths.now s.used s.shape i).length in
-    let small : list.sum (map f (range_with_len 0 a.n)) < 2 ^ 64 = omega (arith, sum_range f a.n, small_sum s.words.now s.counts.now s.lengths.now s.used s.shape s.small a.n c.requires) in
+    let f : ℕ → ℕ = λ (i : ℕ). (entry_at s.words.now s.counts.now s.lengths.now s.used s.contents i).length in
+    let small : list.sum (map f (range_with_len 0 a.n)) < 2 ^ 64 = omega (arith, sum_range f a.n, small_sum s.words.now s.counts.now s.lengths.now s.used s.contents s.small a.n c.requires) in
     fits_from_yields_list c.map.result (2 ^ 64) (YieldsList-from_map _ f (YieldsList-from_range 0 _ a.n c.map.ensures.source (omega arith)) c.map.ensures.closure (λ x r q k. search rules)) small
 
 pub returns : goal.returns
 returns c =
     let a = c.args in
     let s = a.self in
-    let f : ℕ → ℕ = λ (i : ℕ). (entry_at s.words.now s.counts.now s.lengths.now s.used s.shape i).length in
+    let f : ℕ → ℕ = λ (i : ℕ). (entry_at s.words.now s.counts.now s.lengths.now s.used s.contents i).length in
     sum_from_yields_List c.map.result _ c.sum.ensures.ran (YieldsList-from_map _ f (YieldsList-from_range 0 _ a.n c.map.ensures.source (omega arith)) c.map.ensures.closure (λ x r q k. search rules)) ∙ sum_range f a.n

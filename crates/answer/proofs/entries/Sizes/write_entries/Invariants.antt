@@ -1,10 +1,10 @@
-use Rattle.answer.specs.Layout.{entry_at, entry_words}
-use Rattle.step_bodies.specs.Runs.{runs}
-use Rattle.answer.specs.Sums.{sum}
-use lib.Seq.{sets}
-use mathlib.Core.Path.{◌≡◌}
-use Prim.Native.Nat.{◌+◌}
+use Rattle.std.specs.Prelude.{◌≡◌, ◌+◌}
+use Rattle.answer.specs.Layout.{bodies_length, entries_words}
+use Rattle.step_bodies.specs.Page.{Appends}
 use Rattle.answer.proofs.entries.Sizes.write_entries.Given as goal
 
 abbrev pub invariant-loop-i : goal.invariant-loop-i
-invariant-loop-i l = (l.first ≡ l.start + sum (λ j. (entry_at l.self.words.now l.self.counts.now l.self.lengths.now l.self.used l.self.shape j).length) l.i) × (l.answer ≡ sets l.initial.answer 1 (runs (λ j. entry_words (entry_at l.self.words.now l.self.counts.now l.self.lengths.now l.self.used l.self.shape j) (l.start + sum (λ j. (entry_at l.self.words.now l.self.counts.now l.self.lengths.now l.self.used l.self.shape j).length) j)) l.i))
+invariant-loop-i l =
+    let s = l.self in
+    (l.first ≡ l.start + bodies_length s.words.now s.counts.now s.lengths.now s.used s.contents l.i)
+    × Appends l.initial.page l.page (entries_words s.words.now s.counts.now s.lengths.now s.used s.contents l.start l.i)
