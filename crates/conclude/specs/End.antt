@@ -14,15 +14,16 @@ use Rattle.refusal.specs.declared.Refusal.{Refusal}
 use Rattle.refusal.specs.declared.Refusal.TheVariants.{LogFull, CounterSpent, RowsFull}
 use Rattle.refusal.specs.Refusal.{told}
 
--- what the code may suppose: the run went on to its end as the machine's did
+-- what the code may suppose: the run went on to its end as the machine's did, in words of which `log` has those that are used
 pub record Settles (w : List ℕ) (p : Progress) (log answer : List ℕ) : Type 0 where
   pub state : State
   pub index : List ℕ
   pub bindings : List ℕ
-  pub is : RunIs w (length log) (step_count w) state (record { progress = p; bindings = bindings; log = log; index = index; answer = answer })
-  pub short : length log ≤ 16384
+  pub words : List ℕ
+  pub is : RunIs w (length words) (step_count w) state (record { progress = p; bindings = bindings; log = words; index = index; answer = answer })
+  pub used : take p.state.used words ≡ take p.state.used log
+  pub short : length words ≤ 16384
   pub small : p.at < 2 ^ 31
-  pub used : p.state.used ≤ length log
 
 -- if it did not stop
 abbrev pub RanOn : List ℕ → Progress → List ℕ → List ℕ → Type 0

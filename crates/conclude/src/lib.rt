@@ -2,39 +2,29 @@
 #![tactic(auto)]
 
 ghost use Rattle.std.specs.Prelude.{◌≡◌, ◌≤◌, length};
-ghost use Rattle.run.specs.Progress.{as_progress};
+ghost use Rattle.execution.specs.Execution.{left_state};
+ghost use Rattle.run.specs.Progress.{SameAnswer, as_progress};
 ghost use Rattle.conclude.specs.End.{Settles, RanOn, refused, settled, concluded, as_settling};
 
 use contents::Book;
-use execution::{ExecutionState, Stop};
+use execution::{Left, Stop};
 use refusal::Refusal;
 use run::Answered;
 
 // The commit into `tables`, and the answer.
-fn settle(
-    book: Book,
-    p: &Answered,
-    state: &ExecutionState,
-    log: &[u32],
-    tables: &mut [u32],
-    answer: &mut [u32],
-) -> Result<usize, Refusal>
+fn settle(book: Book, p: &mut Answered, left: Left, tables: &mut [u32]) -> Result<usize, Refusal>
     requires { (length tables.old ≤ 16384)
-        × Settles book.words.now (as_progress p.now state.now) log.now answer.old }
-    ensures { as_settling result tables.new answer.new
-        ≡ settled book.entry.words.now (as_progress p.now state.now) log.now tables.old answer.old }
+        × Settles book.words.now (as_progress p.old (left_state left)) left.log.now p.old.page.now.words.now }
+    ensures is { as_settling result tables.new p.new.page.now.words.now
+        ≡ settled book.entry.words.now (as_progress p.old (left_state left.entry)) left.entry.log.now tables.old p.old.page.now.words.now }
+    ensures same { SameAnswer p.old p.new }
 {
     let words = book.words;
-    let done = commit::commit(
-        words,
-        book.contents.table_count(),
-        &log[..state.used],
-        tables,
-    );
+    let done = commit::commit(words, book.contents.table_count(), left.log, tables);
     if done.over {
         return Err(Refusal::RowsFull);
     }
-    answer::assemble(words, tables, done, *state, log, &p.lengths, p.at, answer)
+    answer::assemble(words, tables, done, left, &p.lengths, p.page)
 }
 
 // The refusal of a run that stopped at a step.
@@ -50,19 +40,18 @@ fn refused(why: Stop, step: usize) -> Refusal
 // What a run comes to, by why it ended.
 pub fn conclude(
     book: Book,
-    p: &Answered,
-    state: &ExecutionState,
-    log: &[u32],
+    p: &mut Answered,
+    left: Left,
     tables: &mut [u32],
-    answer: &mut [u32],
 ) -> Result<usize, Refusal>
-    requires { (p.now.done ≤ 64) × (length tables.old ≤ 16384)
-        × RanOn book.words.now (as_progress p.now state.now) log.now answer.old }
-    ensures { as_settling result tables.new answer.new
-        ≡ concluded book.entry.words.now (as_progress p.now state.now) log.now tables.old answer.old }
+    requires { (p.old.done ≤ 64) × (length tables.old ≤ 16384)
+        × RanOn book.words.now (as_progress p.old (left_state left)) left.log.now p.old.page.now.words.now }
+    ensures is { as_settling result tables.new p.new.page.now.words.now
+        ≡ concluded book.entry.words.now (as_progress p.old (left_state left.entry)) left.entry.log.now tables.old p.old.page.now.words.now }
+    ensures same { SameAnswer p.old p.new }
 {
-    match state.stop {
-        None => settle(book, p, state, log, tables, answer),
-        Some(why) => Err(refused(why, book.contents.first_step() + p.done)),
+    match left.stop {
+        None => settle(book, p, left, tables),
+        Some(why) => Err(refused(why, book.step(p.done))),
     }
 }

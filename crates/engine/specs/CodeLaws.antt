@@ -1,5 +1,5 @@
 -- From one call's contract to the next, in the functions of the engine.
-use Rattle.std.specs.Prelude.{ℕ, ◌<◌, ◌≤◌, ◌≡◌, refl, true, ◌&&◌, List, eqb, leb, length, get_or, replicate, None, Result, Ok, Err}
+use Rattle.std.specs.Prelude.{ℕ, ◌<◌, ◌≤◌, ◌≡◌, refl, Bool, true, false, ◌&&◌, List, eqb, leb, length, get_or, take, replicate, None, Result, Ok, Err}
 use Rattle.std.proofs.lemmas.List.{length-replicate}
 use Rattle.std.proofs.Common.{sym, ap, ◌∙◌, subst, arith, eq-eqb, le-leb, eqb-true, leb-true}
 use Rattle.model.specs.Book.Contents.{step_count}
@@ -9,10 +9,12 @@ use Rattle.model.specs.Outcome.{Lent, words_refusal, book_refusal, Permitted}
 use Rattle.refusal.specs.declared.Refusal.{Refusal}
 use Rattle.refusal.specs.Refusal.{refusal_of}
 use Rattle.admit.specs.BookLaws.{book_on}
+use Rattle.execution.specs.Execution.{RunState}
 use Rattle.run.specs.Progress.{Progress, Ran, ran_steps}
 use Rattle.simulation.specs.Ends.{start_progress}
 use Rattle.engine.specs.Engine.{lent_of, lengths_fit, Runnable, Decided, outcome_of, AnswerLeft, kept_answer}
 use Rattle.conclude.specs.End.{Concludes, RanOn, Settling, concluded}
+use Rattle.conclude.specs.SettleLaws.{concluded_used}
 use Rattle.engine.specs.EngineLaws.{all_read, runnable, ran_on, run_concludes, decided_book, decided_run, permitted, answer_left}
 
 -- ## The lengths
@@ -31,6 +33,13 @@ module _ (bindings index log tables : ℕ) where
       let u = and_split (eqb bindings 8192 && eqb index 8192) (leb log 16384) t.0 in
       let v = and_split (eqb bindings 8192) (eqb index 8192) u.0 in
       (eqb-true bindings 8192 v.0, eqb-true index 8192 v.1, leb-true log 16384 u.1, leb-true tables 16384 t.1)
+
+  pub fit_false : (Fit → ⊥) → lengths_fit bindings index log tables ≡ false
+  fit_false n = by (lengths_fit bindings index log tables) refl
+    where
+      by : (b : Bool) → lengths_fit bindings index log tables ≡ b → b ≡ false
+      by true e = absurd (n (true_fit e))
+      by false e = refl
 
 -- zeros, as many as another number says, and as many as they are
 pub zeros_as : (n k : ℕ) (ws : List ℕ) → ws ≡ replicate n 0 → n ≡ k → ws ≡ replicate k 0
@@ -72,13 +81,25 @@ module _ (w : List ℕ) (h : Runnable w) (bindings index log answer : List ℕ) 
       ∙ ap (λ (l : List ℕ). ran_steps w (step_count w) (record { progress = start_progress w; bindings = bindings; log = replicate (length log) 0; index = l; answer = answer })) index-zero
       ∙ ap (λ (l : List ℕ). ran_steps w (step_count w) (record { progress = start_progress w; bindings = bindings; log = replicate (length log) 0; index = replicate 8192 0; answer = l })) answer-zero
 
-  pub may_conclude : a.progress.at ≤ 1048576 → a.progress.state.used ≤ length log → RanOn w a.progress a.log a.answer
-  may_conclude at used = ran_on w h (length log) (length answer) short bindings a from_start log-size (omega arith) used
+  -- by what the run leaves to be read
+  module _ (x : RunState) (x_is : x ≡ a.progress.state) (used : List ℕ) (used_is : used ≡ take a.progress.state.used a.log) where
+    abbrev left : Progress
+    left = record { state = x; done = a.progress.done; at = a.progress.at; lengths = a.progress.lengths }
 
-  pub book_concludes : length a.answer ≡ length answer → (rows : List ℕ) → length rows ≤ 16384 → (c : Settling) → c ≡ concluded w a.progress a.log rows a.answer → Concludes w (lent_of bindings index log rows answer) c.outcome c.answer
-  book_concludes answer-size rows few c e =
-      subst (λ (c : Settling). Concludes w (lent_of bindings index log rows answer) c.outcome c.answer) (sym e)
-      (run_concludes w h (length log) (length answer) short bindings (lent_of bindings index log rows answer) refl few refl a from_start answer-size rows refl)
+    pub may_conclude : a.progress.at ≤ 1048576 → RanOn w left used a.answer
+    may_conclude at = rw (x_is, used_is) (ran_on w h (length log) (length answer) short bindings a from_start log-size (omega arith))
+
+    concluded_left : (rows : List ℕ) → concluded w left used rows a.answer ≡ concluded w a.progress a.log rows a.answer
+    concluded_left rows = rw (x_is, used_is) (concluded_used w a.progress a.log rows a.answer)
+
+    pub book_concludes : length a.answer ≡ length answer → (rows : List ℕ) → length rows ≤ 16384 → (c : Settling) → c ≡ concluded w left used rows a.answer → Concludes w (lent_of bindings index log rows answer) c.outcome c.answer
+    book_concludes answer-size rows few c e =
+        subst (λ (c : Settling). Concludes w (lent_of bindings index log rows answer) c.outcome c.answer) (sym (e ∙ concluded_left rows))
+        (run_concludes w h (length log) (length answer) short bindings (lent_of bindings index log rows answer) refl few refl a from_start answer-size rows refl)
+
+-- what is concluded of some words is so of words that are equal to them
+pub concludes_as : (w : List ℕ) (l : Lent) (r : Result ℕ Refusal) {ws us : List ℕ} → us ≡ ws → Concludes w l r ws → Concludes w l r us
+concludes_as w l r e = subst (λ (x : List ℕ). Concludes w l r x) (sym e)
 
 -- ## What is left
 

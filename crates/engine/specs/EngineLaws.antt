@@ -2,7 +2,7 @@
 use Rattle.std.specs.Prelude.{ℕ, suc, ◌-◌, ◌^◌, ◌<◌, ◌≤◌, ◌≡◌, refl, true, false, List, [], ◌∷◌, length, get_or, take, drop, replicate, None, Some, Result, Ok, Err}
 use Rattle.std.proofs.Common.{sym, ◌∙◌, subst, arith, drop_at}
 use Rattle.std.proofs.Math.Path.{ap}
-use Rattle.std.proofs.Math.Seq.{take_at}
+use Rattle.std.proofs.Math.Seq.{take_at, take-take}
 use Rattle.model.specs.Basics.{All}
 use Rattle.model.specs.Book.Syntax.{Table}
 use Rattle.model.specs.Book.Words.{Byte, words_of, bytes_refusal}
@@ -57,20 +57,21 @@ module _ (w : List ℕ) (h : Runnable w) (L A : ℕ) (short : L ≤ 16384) (m : 
   followed = run_follows w h.readable L short h.no_steps started (starts w L A m) refl (step_count w) (omega arith)
 
   -- a run that did not stop is one that the commit may go on from
-  pub ran_on : (a : Ran) → a ≡ ran_steps w (step_count w) started → length a.log ≡ L → a.progress.at < 2 ^ 31 → a.progress.state.used ≤ L → RanOn w a.progress a.log a.answer
-  ran_on a e size small used on = by (subst (Runs w L (step_count w) state) (sym e) followed)
+  pub ran_on : (a : Ran) → a ≡ ran_steps w (step_count w) started → length a.log ≡ L → a.progress.at < 2 ^ 31 → RanOn w a.progress (take a.progress.state.used a.log) a.answer
+  ran_on a e size small on = by (subst (Runs w L (step_count w) state) (sym e) followed)
     where
-      by : Runs w L (step_count w) state a → Settles w a.progress a.log a.answer
+      by : Runs w L (step_count w) state a → Settles w a.progress (take a.progress.state.used a.log) a.answer
       by (sticking x) = absurd (h.unstuck L (step_count w) x)
       by (stopped x y z) = absurd (bool_clash (sym (ap goes_on on) ∙ x))
       by (going_on x y r) = record {
         state = state;
         index = a.index;
         bindings = a.bindings;
+        words = a.log;
         is = subst (λ (n : ℕ). RunIs w n (step_count w) state a) (sym size) r;
+        used = sym (take-take a.progress.state.used a.progress.state.used a.log (omega arith));
         short = omega arith;
         small = small;
-        used = omega arith;
       }
 
   pub run_concludes : (l : Lent) → l.log ≡ L → l.tables ≤ 16384 → l.answer ≡ A → (a : Ran) → a ≡ ran_steps w (step_count w) started → length a.answer ≡ A → (rows : List ℕ) → length rows ≡ l.tables

@@ -6,17 +6,19 @@ ghost use Rattle.model.specs.Book.Words.{bytes_refusal, words_of};
 ghost use Rattle.model.specs.Book.Read as read;
 ghost use Rattle.model.specs.Outcome.{Permitted, words_refusal};
 ghost use Rattle.counter.specs.CounterLaws.{padded};
+ghost use Rattle.execution.specs.Execution.{state_of};
 ghost use Rattle.simulation.specs.Ends.{start_state};
-ghost use Rattle.run.specs.Progress.{as_progress};
-ghost use Rattle.conclude.specs.End.{RanOn, Concludes, as_settling, concluded};
-ghost use Rattle.engine.specs.Engine.{lent_of, lengths_fit, Runnable, Decided, outcome_of, AnswerLeft, kept_answer};
+ghost use Rattle.conclude.specs.End.{Concludes};
+ghost use Rattle.engine.specs.Engine.{lent_of, Runnable, Decided, outcome_of, AnswerLeft, kept_answer};
 
 use contents::Book;
 use counter::Counters;
 use execution::ExecutionState;
 use predict::Execution;
+use record_log::Log;
 use refusal::Refusal;
 use run::Answered;
+use step_bodies::Page;
 
 // The book's counters, 0 past the last.
 fn counters_of(book: Book) -> Counters
@@ -32,39 +34,27 @@ fn counters_of(book: Book) -> Counters
     Counters { next }
 }
 
-// A fresh execution state, before the first step.
-fn start(book: Book) -> ExecutionState
-    ensures { result ≡ start_state book.entry.words.now }
+// A fresh execution state with an empty log, before the first step.
+fn start<'a>(book: Book, log: &'a mut [u32]) -> ExecutionState<'a>
+    ensures is { state_of result ≡ start_state book.entry.words.now }
+    ensures log { (result.log.words.ghost_name ≡ log.entry.ghost_name) × (result.log.words.now ≡ log.old) }
 {
     ExecutionState {
-        used: 0,
+        log: Log {
+            words: log,
+            used: 0,
+        },
         counters: counters_of(book),
         changed: false,
         stop: None,
     }
 }
 
-// What a run comes to, by the state and the log that it left.
-fn conclude_run(
-    book: Book,
-    p: &Answered,
-    run: &Execution,
-    tables: &mut [u32],
-    answer: &mut [u32],
-) -> Result<usize, Refusal>
-    requires { (p.now.done ≤ 64) × (length tables.old ≤ 16384)
-        × RanOn book.words.now (as_progress p.now run.now.state) run.now.log.now answer.old }
-    ensures { as_settling result tables.new answer.new ≡ concluded book.entry.words.now
-        (as_progress p.now run.now.state) run.now.log.now tables.old answer.old }
-{
-    conclude::conclude(book, p, &run.state, run.log, tables, answer)
-}
-
 // The words of a book that draws none of refusals 1 to 11: its run, the commit and the answer.
 fn run_book(
     words: &[u32],
-    bindings: &mut [u32],
-    index: &mut [u32],
+    bindings: &mut [u32; 8192],
+    index: &mut [u32; 8192],
     log: &mut [u32],
     tables: &mut [u32],
     answer: &mut [u32],
@@ -76,29 +66,29 @@ fn run_book(
         (lent_of bindings.old index.old log.old tables.old
         answer.old) result answer.new }
 {
-    let book = Book {
-        words,
-        contents: contents::of(words),
+    let book = Book::of(words);
+    let mut page = Page {
+        words: answer,
+        at: 0,
     };
     let mut p = Answered {
         done: 0,
-        at: 0,
+        page: &mut page,
         lengths: [0u32; 64],
     };
     let mut run = Execution {
-        state: start(book),
-        log,
+        state: start(book, log),
         index,
     };
-    run::run_steps(book, &mut p, &mut run, bindings, answer);
-    conclude_run(book, &p, &run, tables, answer)
+    run::run_steps(book, &mut p, &mut run, bindings);
+    conclude::conclude(book, &mut p, run.state.left(), tables)
 }
 
 // A book that refusal 1 passes, loaded into an array of N words: refusals 2 to 11, and then its run.
 fn decide_words<const N: usize>(
     book: &[u8],
-    bindings: &mut [u32],
-    index: &mut [u32],
+    bindings: &mut [u32; 8192],
+    index: &mut [u32; 8192],
     log: &mut [u32],
     tables: &mut [u32],
     answer: &mut [u32],
@@ -120,8 +110,8 @@ fn decide_words<const N: usize>(
 // The same, in a small array for a small book, since clearing it takes less time.
 fn decide_book(
     book: &[u8],
-    bindings: &mut [u32],
-    index: &mut [u32],
+    bindings: &mut [u32; 8192],
+    index: &mut [u32; 8192],
     log: &mut [u32],
     tables: &mut [u32],
     answer: &mut [u32],
@@ -139,14 +129,7 @@ fn decide_book(
     decide_words::<16384>(book, bindings, index, log, tables, answer)
 }
 
-// Refusal 14: whether the lengths are right.
-fn lengths_fit(bindings: usize, index: usize, log: usize, tables: usize) -> bool
-    ensures { result ≡ lengths_fit bindings index log tables }
-{
-    bindings == 8192 && index == 8192 && log <= 16384 && tables <= 16384
-}
-
-// The outcome, with the answer in its words. The words lent are zero.
+// The outcome, with the answer in its words; wrong lengths are refusal 14. The words lent are zero.
 fn decide(
     book: &[u8],
     bindings: &mut [u32],
@@ -161,7 +144,13 @@ fn decide(
         (lent_of bindings.old index.old log.old tables.old
         answer.old) book.now result answer.new }
 {
-    if !lengths_fit(bindings.len(), index.len(), log.len(), tables.len()) {
+    let Some(bindings) = bindings.as_mut_array() else {
+        return Err(Refusal::Lengths);
+    };
+    let Some(index) = index.as_mut_array() else {
+        return Err(Refusal::Lengths);
+    };
+    if log.len() > 16384 || tables.len() > 16384 {
         return Err(Refusal::Lengths);
     }
     admit::length_refusal(book)?;

@@ -1,25 +1,25 @@
 -- The steps of a book, one after the other, and their bodies at the front of the answer: w is the book's words.
-use Rattle.std.specs.Prelude.{ℕ, ◌+◌, ◌-◌, ◌*◌, ◌<◌, ◌≤◌, cond, List, eqb, length, set}
+use Rattle.std.specs.Prelude.{ℕ, ◌+◌, ◌-◌, ◌*◌, ◌<◌, ◌≤◌, ◌≡◌, cond, List, eqb, length, set}
 use Rattle.model.specs.Basics.{iter, when}
 use Rattle.model.specs.Book.Contents.{kind_of, first_of, first_step}
-use Rattle.execution.specs.declared.ExecutionState.{ExecutionState}
-use Rattle.execution.specs.Execution.{is_going}
+use Rattle.execution.specs.Execution.{RunState, state_of, is_going}
 use Rattle.predict.specs.Predict.{Gotten}
 use Rattle.action.specs.Run.{Running}
 use Rattle.step.specs.Steps.{ran_batch, asked_row, row_answered}
+use Rattle.step_bodies.specs.Page.{SamePage}
 use Rattle.step_bodies.specs.Steps.{placed, batch_words, prediction_words}
 use Rattle.predict.specs.declared.run.Execution.{Execution}
 use Rattle.run.specs.declared.Answered.{Answered}
 
 -- what the run keeps, how many steps have answered, how many words their bodies have in all, and each
 pub record Progress : Type 0 where
-  pub state : ExecutionState
+  pub state : RunState
   pub done : ℕ
   pub at : ℕ
   pub lengths : List ℕ
 
-abbrev pub as_progress : Answered → ExecutionState → Progress
-as_progress p x = record { state = x; done = p.done; at = p.at; lengths = p.lengths }
+abbrev pub as_progress : Answered → RunState → Progress
+as_progress p x = record { state = x; done = p.done; at = p.page.now.at; lengths = p.lengths }
 
 -- with the memory that it runs in
 pub record Ran : Type 0 where
@@ -29,34 +29,39 @@ pub record Ran : Type 0 where
   pub index : List ℕ
   pub answer : List ℕ
 
-abbrev pub as_ran : Answered → Execution → (bindings answer : List ℕ) → Ran
-as_ran p e bindings answer = record { progress = as_progress p e.state; bindings = bindings; log = e.log.now; index = e.index.now; answer = answer }
+abbrev pub as_ran : Answered → Execution → (bindings : List ℕ) → Ran
+as_ran p e bindings = record { progress = as_progress p (state_of e.state); bindings = bindings; log = e.state.log.words.now; index = e.index.now; answer = p.page.now.words.now }
 
 -- fewer than 64 steps have answered, of 8483 words each at most
 pub record Early (p : Answered) : Type 0 where
   pub done : p.done < 64
-  pub at : p.at ≤ 8483 * 64
+  pub at : p.page.now.at ≤ 8483 * 64
 
--- a step more has answered, and the words up to `end` are used
+-- a step more has answered, and its words stand from the word `from` on
 abbrev pub counted : ℕ → Answered → Answered
-counted end p = record { done = p.done + 1; at = end; lengths = set p.lengths p.done (end - p.at) }
+counted from p = record { done = p.done + 1; page = p.page; lengths = set p.lengths p.done (p.page.now.at - from) }
 
 -- by one step no more than one answers, with 8483 words at most
 pub record Within (p q : Answered) : Type 0 where
   pub done : q.done ≤ p.done + 1
-  pub at : q.at ≤ p.at + 8483
+  pub at : q.page.now.at ≤ p.page.now.at + 8483
+
+-- a call leaves the same page lent, with the same words
+pub record SameAnswer (p q : Answered) : Type 0 where
+  pub page : q.page.ghost_name ≡ p.page.ghost_name
+  pub words : SamePage p.page.now q.page.now
 
 -- a step has answered, and the words up to `end` are used; it has not
-abbrev pub advanced : ExecutionState → ℕ → Progress → Progress
+abbrev pub advanced : RunState → ℕ → Progress → Progress
 advanced x end p = record { state = x; done = p.done + 1; at = end; lengths = set p.lengths p.done (end - p.at) }
 
-abbrev pub halted : ExecutionState → Progress → Progress
+abbrev pub halted : RunState → Progress → Progress
 halted x p = record { state = x; done = p.done; at = p.at; lengths = p.lengths }
 
 -- ## A step
 
 -- the body l of a step that left x
-abbrev pub told : ExecutionState → List ℕ → Progress → Progress
+abbrev pub told : RunState → List ℕ → Progress → Progress
 told x l p = advanced x (p.at + length l) p
 
 abbrev pub body_of : Running → List ℕ
@@ -81,8 +86,12 @@ module _ (w : List ℕ) where
   unfoldable pub batch_step : ℕ → Ran → Ran
   batch_step i a = batch_told (ran_batch w (first_of w i) a.progress.state a.log a.index) a
 
-  unfoldable pub prediction_step : ℕ → Ran → Ran
-  prediction_step i a = row_told (first_of w i) (asked_row w a.bindings (first_of w i) a.progress.state a.log a.index) a
+  -- the prediction whose body begins at the word `at`
+  unfoldable pub prediction_at : ℕ → Ran → Ran
+  prediction_at at a = row_told at (asked_row w a.bindings at a.progress.state a.log a.index) a
+
+  abbrev pub prediction_step : ℕ → Ran → Ran
+  prediction_step i a = prediction_at (first_of w i) a
 
   abbrev pub ran_step : ℕ → Ran → Ran
   ran_step i a = cond (eqb (kind_of w i) 4) (batch_step i a) (prediction_step i a)

@@ -15,13 +15,12 @@ use Rattle.contents.specs.ContentsLaws.{first_step_is}
 use Rattle.predicted_index.specs.Home.{home_of}
 use Rattle.predicted_index.specs.RowLaws.{row_short}
 use Rattle.instr.specs.Instr.{instr_at}
-use Rattle.execution.specs.declared.ExecutionState.{ExecutionState}
-use Rattle.execution.specs.Execution.{is_going}
+use Rattle.execution.specs.Execution.{RunState, is_going}
 use Rattle.predict.specs.Predict.{Gotten}
 use Rattle.action.specs.Run as action
 use Rattle.action.specs.Run.{Running, ran_instr, ran_instrs}
-use Rattle.step.specs.Steps.{IsStep, lane_count, start_batch, rule_of, ran_batch, row_asked, key_asked, row_answered}
-use Rattle.step.specs.StepsLaws.{lane_count_most, batch_facts, prediction_facts}
+use Rattle.step.specs.Steps.{IsStep, Asks, lane_count, start_batch, rule_of, ran_batch, row_asked, key_asked, row_answered}
+use Rattle.step.specs.StepsLaws.{lane_count_most, batch_facts, asks_here}
 use Rattle.step_bodies.specs.Steps.{placed}
 use Rattle.run.specs.Progress.{Progress, Ran, halted, told, body_of, batch_told, row_body, row_told, next_entry, batch_step, prediction_step, ran_next}
 
@@ -51,13 +50,13 @@ module _ (w : List ℕ) where
   instrs_lanes at n r = iter_keeps (λ (x : Running). x.batch.bindings.matches ≡ r.batch.bindings.matches) (λ j. action.ran_next w (instr_place w at j)) n r refl (λ i a l e. next_lanes (instr_place w at i) a ∙ e)
 
   -- a batch ends with the lanes that its body says
-  pub batch_lanes : (at : ℕ) (x : ExecutionState) (log index : List ℕ) → (ran_batch w at x log index).batch.bindings.matches ≡ lane_count (get_or w (at + 2) 0) (get_or w (at + 1) 0)
+  pub batch_lanes : (at : ℕ) (x : RunState) (log index : List ℕ) → (ran_batch w at x log index).batch.bindings.matches ≡ lane_count (get_or w (at + 2) 0) (get_or w (at + 1) 0)
   unfolding ran_batch
   batch_lanes at x log index = instrs_lanes (rule_of w at) (get_or w (rule_of w at + 1) 0) (start_batch w at x log index)
 
 module _ {w : List ℕ} (h : Readable w) {i : ℕ} (s : IsStep w i) where
   -- a batch of the book has at most 256 lanes when it ends
-  pub lanes_most : kind_of w i ≡ 4 → (x : ExecutionState) (log index : List ℕ) → (ran_batch w (first_of w i) x log index).batch.bindings.matches ≤ 256
+  pub lanes_most : kind_of w i ≡ 4 → (x : RunState) (log index : List ℕ) → (ran_batch w (first_of w i) x log index).batch.bindings.matches ≤ 256
   lanes_most k x log index =
       omega (arith, batch_lanes w (first_of w i) x log index, lane_count_most (get_or w (first_of w i + 2) 0) (get_or w (first_of w i + 1) 0) (batch_facts h s k).lanes)
 
@@ -65,12 +64,16 @@ module _ {w : List ℕ} (h : Readable w) {i : ℕ} (s : IsStep w i) where
   pub not_batch : (kind_of w i ≡ 4 → ⊥) → kind_of w i ≡ 5
   not_batch n = either (λ q. absurd (n q)) (λ q. q) (subst (λ (e : ℕ). (kind_of w e ≡ 4) ⊎ (kind_of w e ≡ 5)) (sym s.entry) (step_kind_lem w h.contents h.bodies s.number s.below))
 
-  -- the row of a prediction of the book has at most 16 words
+-- the row of a prediction of the book has at most 16 words
+pub asked_most : {w : List ℕ} → Readable w → {at : ℕ} → Asks w at → (log index : List ℕ) → length (row_answered w at log index) ≤ 16
+unfolding row_answered
+asked_most {w} h {at} a log index =
+    let t = (table_read w h.contents h.bodies (get_or w at 0) a.table).1 in
+    omega (arith, t.keys, t.vals, row_short home_of w log index (row_asked w at).of (key_asked w at).vals)
+
+module _ {w : List ℕ} (h : Readable w) {i : ℕ} (s : IsStep w i) where
   pub row_most : kind_of w i ≡ 5 → (log index : List ℕ) → length (row_answered w (first_of w i) log index) ≤ 16
-  unfolding row_answered
-  row_most k log index =
-      let t = (table_read w h.contents h.bodies (get_or w (first_of w i) 0) (prediction_facts h s k).table).1 in
-      omega (arith, t.keys, t.vals, row_short home_of w log index (row_asked w (first_of w i)).of (key_asked w (first_of w i)).vals)
+  row_most k log index = asked_most h (asks_here h s k) log index
 
 -- ## A step that answered, and one that stopped
 

@@ -1,178 +1,149 @@
 // The steps of a book, one after the other. Each step's body goes to the front of the answer's words, past those of the steps before it.
 #![tactic(auto)]
 
-ghost use Rattle.std.specs.Prelude.{◌≡◌, ◌+◌, ◌^◌, ◌≤◌, ◌<◌, length};
-ghost use Rattle.model.specs.Book.Contents.{first_of, kind_of, step_count, table_count};
-ghost use Rattle.model.specs.Laws.Book.{Readable};
-ghost use Rattle.hash_index.specs.Book.{rows_before, BookIndex};
+ghost use Rattle.std.specs.Prelude.{◌≡◌, ◌^◌, ◌≤◌, ◌<◌};
+ghost use Rattle.model.specs.Book.Contents.{kind_of, step_count};
+ghost use Rattle.hash_index.specs.Book.{rows_before};
 ghost use Rattle.predict.specs.Predict.{SameWords};
 ghost use Rattle.step.specs.Steps.{IsStep, row_answered};
-ghost use Rattle.step_bodies.specs.Steps.{placed, prediction_words};
-ghost use Rattle.run.specs.Progress.{Early, Within, counted, batch_step, prediction_step, ran_next, ran_steps, as_ran};
+ghost use Rattle.step_bodies.specs.Page.{Places};
+ghost use Rattle.step_bodies.specs.Steps.{prediction_words};
+ghost use Rattle.run.specs.Progress.{Early, Within, SameAnswer, counted, batch_step, prediction_at, ran_next, ran_steps, as_ran};
 
 use contents::{Book, Kind};
-use lanes::View;
+use hash_index::IndexedBook;
 use predict::Execution;
+use step::Prediction;
+use step_bodies::Page;
 
-// How many steps have answered, how many words their bodies have in all, and each.
-#[derive(Clone, Copy)]
-pub struct Answered {
+// How many steps have answered, the page that their bodies are put on, and how many words each has.
+#[derive(Drop)]
+pub struct Answered<'a, 'b> {
     pub done: usize,
-    pub at: usize,
+    pub page: &'a mut Page<'b>,
     pub lengths: [u32; 64],
 }
 
-// A step has answered, and the words up to `end` are used.
-fn advance(p: &mut Answered, end: usize)
-    requires { (p.old.done < 64) × (p.old.at ≤ end) × (end < 4294967296) }
-    ensures { p.new ≡ counted end p.old }
+// A step has answered, and its body begins at the word `from`.
+fn advance(p: &mut Answered, from: usize)
+    requires { (p.old.done < 64) × (from ≤ p.old.page.now.at) × (p.old.page.now.at < 4294967296) }
+    ensures { p.new ≡ counted from p.old }
 {
-    p.lengths[p.done] = (end - p.at) as u32;
+    p.lengths[p.done] = (p.page.at - from) as u32;
     p.done += 1;
-    p.at = end;
 }
 
 // The step of entry i, a batch, and its body.
 #[tactic(auto, unfolding(crate::specs::Progress::batch_step))]
 fn batch_step(
-    book: Book,
-    chains: &[u32],
+    indexed: IndexedBook,
     i: usize,
     p: &mut Answered,
     run: &mut Execution,
-    bindings: &mut [u32],
-    answer: &mut [u32],
+    bindings: &mut [u32; 8192],
 )
-    requires { BookIndex book.words.now (table_count book.words.now) chains.now
-        × IsStep book.words.now i × (kind_of book.words.now i ≡ 4) × Early p.old × (length bindings.old ≡ 8192) }
-    ensures is { as_ran p.new run.new bindings.new answer.new
-        ≡ batch_step book.entry.words.now i (as_ran p.old run.old bindings.old answer.old) }
+    requires { IsStep indexed.book.words.now i × (kind_of indexed.book.words.now i ≡ 4) × Early p.old }
+    ensures is { as_ran p.new run.new bindings.new
+        ≡ batch_step indexed.entry.book.words.now i (as_ran p.old run.old bindings.old) }
     ensures fits { Within p.old p.new }
-    ensures same { SameWords run.old run.new }
+    ensures same { SameWords run.old run.new × SameAnswer p.old p.new }
 {
-    let batch = step::run_batch(book, chains, i, run, bindings);
+    let batch = step::run_batch(indexed, i, run, bindings);
     if run.state.going() {
-        let end = step_bodies::write_batch(bindings, batch.bindings, batch.mask, p.at, answer);
-        advance(p, end);
+        let from = p.page.at;
+        step_bodies::write_batch(bindings, batch.bindings, batch.mask, p.page);
+        advance(p, from);
     }
 }
 
-// The body of the prediction of entry i, whose row stands by now; and the word past it.
-fn write_row(
-    view: View,
-    i: usize,
-    run: &Execution,
-    made: bool,
-    at: usize,
-    answer: &mut [u32],
-) -> usize
-    requires { Readable view.words.now × BookIndex view.words.now (table_count view.words.now) view.chains.now
-        × IsStep view.words.now i × (kind_of view.words.now i ≡ 5) × (at ≤ 2 ^ 32) }
-    ensures words { answer.new ≡ placed (prediction_words made
-        (row_answered view.entry.words.now (first_of view.entry.words.now i) run.now.log.now run.now.index.now))
-        at answer.old }
-    ensures end { result ≡ at + length (prediction_words made
-        (row_answered view.entry.words.now (first_of view.entry.words.now i) run.now.log.now run.now.index.now)) }
+// The body of a prediction, whose row stands by now.
+fn write_row(asked: Prediction, run: &Execution, made: bool, page: &mut Page)
+    requires { page.old.at ≤ 2 ^ 32 }
+    ensures { Places page.old page.new (prediction_words made
+        (row_answered asked.entry.indexed.book.words.now asked.entry.at
+        run.now.state.log.words.now run.now.index.now)) }
 {
-    let row = step::row_answered(view.words, run.log, view.chains, run.index, i);
-    step_bodies::write_prediction(row, made, at, answer)
+    let row = step::row_answered(asked, run.state.log.words, run.index);
+    step_bodies::write_prediction(row, made, page);
 }
 
-// The step of entry i, a prediction, and its body.
-#[tactic(auto, unfolding(crate::specs::Progress::prediction_step))]
-fn prediction_step(view: View, i: usize, p: &mut Answered, run: &mut Execution, answer: &mut [u32])
-    requires { Readable view.words.now × BookIndex view.words.now (table_count view.words.now) view.chains.now
-        × IsStep view.words.now i × (kind_of view.words.now i ≡ 5) × Early p.old }
-    ensures is { as_ran p.new run.new view.entry.bindings.now answer.new
-        ≡ prediction_step view.entry.words.now i (as_ran p.old run.old view.entry.bindings.now answer.old) }
+// The step that is a prediction, and its body.
+#[tactic(auto, unfolding(crate::specs::Progress::prediction_at))]
+fn prediction_step(asked: Prediction, p: &mut Answered, run: &mut Execution, bindings: &[u32; 8192])
+    requires { Early p.old }
+    ensures is { as_ran p.new run.new bindings.now
+        ≡ prediction_at asked.entry.indexed.book.words.now asked.entry.at (as_ran p.old run.old bindings.now) }
     ensures fits { Within p.old p.new }
-    ensures same { SameWords run.old run.new }
+    ensures same { SameWords run.old run.new × SameAnswer p.old p.new }
 {
-    let made = step::run_prediction(view, i, run);
+    let made = step::run_prediction(asked, run, bindings);
     if !run.state.going() {
         return;
     }
-    let end = write_row(view, i, run, made, p.at, answer);
-    advance(p, end);
+    let from = p.page.at;
+    write_row(asked, run, made, p.page);
+    advance(p, from);
 }
 
 // The next step, if the run goes on.
 #[tactic(auto, unfolding(crate::specs::Progress::ran_next))]
-fn run_next(
-    book: Book,
-    chains: &[u32],
-    p: &mut Answered,
-    run: &mut Execution,
-    bindings: &mut [u32],
-    answer: &mut [u32],
-)
-    requires { BookIndex book.words.now (table_count book.words.now) chains.now
-        × (p.old.done < step_count book.words.now) × Early p.old × (length bindings.old ≡ 8192) }
-    ensures is { as_ran p.new run.new bindings.new answer.new
-        ≡ ran_next book.entry.words.now (as_ran p.old run.old bindings.old answer.old) }
+fn run_next(indexed: IndexedBook, p: &mut Answered, run: &mut Execution, bindings: &mut [u32; 8192])
+    requires { (p.old.done < step_count indexed.book.words.now) × Early p.old }
+    ensures is { as_ran p.new run.new bindings.new
+        ≡ ran_next indexed.entry.book.words.now (as_ran p.old run.old bindings.old) }
     ensures fits { Within p.old p.new }
-    ensures same { SameWords run.old run.new }
+    ensures same { SameWords run.old run.new × SameAnswer p.old p.new }
 {
     if run.state.stop.is_some() {
         return;
     }
-    let words = book.words;
-    let i = book.contents.first_step() + p.done;
-    if contents::body_kind(words, i) == Some(Kind::Batch) {
-        batch_step(book, chains, i, p, run, bindings, answer)
+    let book = indexed.book;
+    let i = book.step(p.done);
+    if contents::body_kind(book.words, i) == Some(Kind::Batch) {
+        batch_step(indexed, i, p, run, bindings)
     } else {
-        let view = View {
-            words,
-            chains,
-            bindings,
+        let asked = Prediction {
+            indexed,
+            at: contents::first_of(book.words, i),
         };
-        prediction_step(view, i, p, run, answer)
+        prediction_step(asked, p, run, bindings)
     }
 }
 
 // All steps, one after the other.
-fn run_each(
-    book: Book,
-    chains: &[u32],
-    p: &mut Answered,
-    run: &mut Execution,
-    bindings: &mut [u32],
-    answer: &mut [u32],
-)
-    requires { BookIndex book.words.now (table_count book.words.now) chains.now
-        × (p.old.done ≡ 0) × (p.old.at ≡ 0) × (length bindings.old ≡ 8192) }
-    ensures is { as_ran p.new run.new bindings.new answer.new
-        ≡ ran_steps book.entry.words.now (step_count book.entry.words.now)
-        (as_ran p.old run.old bindings.old answer.old) }
-    ensures fits { (p.new.done ≤ 64) × (p.new.at ≤ 1048576) }
-    ensures same { SameWords run.old run.new }
+fn run_each(indexed: IndexedBook, p: &mut Answered, run: &mut Execution, bindings: &mut [u32; 8192])
+    requires { (p.old.done ≡ 0) × (p.old.page.now.at ≡ 0) }
+    ensures is { as_ran p.new run.new bindings.new
+        ≡ ran_steps indexed.entry.book.words.now (step_count indexed.entry.book.words.now)
+        (as_ran p.old run.old bindings.old) }
+    ensures fits { (p.new.done ≤ 64) × (p.new.page.now.at ≤ 1048576) }
+    ensures same { SameWords run.old run.new × SameAnswer p.old p.new }
 {
-    for _ in 0..book.contents.step_count() {
-        run_next(book, chains, p, run, bindings, answer);
+    for _ in 0..indexed.book.contents.step_count() {
+        run_next(indexed, p, run, bindings);
     }
 }
 
 // All steps of a book, by an index that is made for it or by none. None has answered before.
-pub fn run_steps(
-    book: Book,
-    p: &mut Answered,
-    run: &mut Execution,
-    bindings: &mut [u32],
-    answer: &mut [u32],
-)
-    requires { (p.old.done ≡ 0) × (p.old.at ≡ 0) × (length bindings.old ≡ 8192) }
-    ensures is { as_ran p.new run.new bindings.new answer.new
+pub fn run_steps(book: Book, p: &mut Answered, run: &mut Execution, bindings: &mut [u32; 8192])
+    requires { (p.old.done ≡ 0) × (p.old.page.now.at ≡ 0) }
+    ensures is { as_ran p.new run.new bindings.new
         ≡ ran_steps book.entry.words.now (step_count book.entry.words.now)
-        (as_ran p.old run.old bindings.old answer.old) }
-    ensures fits { (p.new.done ≤ 64) × (p.new.at ≤ 1048576) }
-    ensures same { SameWords run.old run.new }
+        (as_ran p.old run.old bindings.old) }
+    ensures fits { (p.new.done ≤ 64) × (p.new.page.now.at ≤ 1048576) }
+    ensures same { SameWords run.old run.new × SameAnswer p.old p.new }
 {
     let words = book.words;
     let tables = book.contents.table_count();
     if hash_index::serves(hash_index::rows_before(words, tables)) {
-        let mut chains = [0u32; 18432];
+        let mut chains = [0u32; hash_index::INDEX_WORDS];
         hash_index::build_all(words, tables, &mut chains);
-        return run_each(book, &chains, p, run, bindings, answer);
+        let indexed = IndexedBook {
+            book,
+            chains: Some(&chains),
+        };
+        return run_each(indexed, p, run, bindings);
     }
-    run_each(book, &words[..0], p, run, bindings, answer)
+    let indexed = IndexedBook { book, chains: None };
+    run_each(indexed, p, run, bindings)
 }

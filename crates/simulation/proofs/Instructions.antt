@@ -18,9 +18,9 @@ use Rattle.instr.specs.declared.Entries.{Entries}
 use Rattle.instr.specs.declared.Instr.{Instr}
 use Rattle.instr.specs.declared.Instr.TheVariants.{LookupOrInsertDefault, LookupWithDefault, Lookup, LookupWithFallback, Insert, InsertIfEq, Remove, External, ExternalWithFallback, AssertEq, AssertNe, AssertAnyNe, ReadCounter}
 use Rattle.instr.specs.Meaning.{instr_of}
+use Rattle.lanes.specs.declared.Ask.TheVariants.{Entry as AskEntry}
 use Rattle.lanes.specs.LaneLaws.{asked_entry}
-use Rattle.lanes.specs.Lanes.{entry_ask, asked, is_some}
-use Rattle.execution.specs.declared.ExecutionState.{ExecutionState}
+use Rattle.lanes.specs.Lanes.{asked, is_some}
 use Rattle.action.specs.Act.{Lanes, acted, row_ask}
 use Rattle.simulation.specs.Represents.{machine, LogIs, Follows, sticks, stops, goes, not_going}
 use Rattle.simulation.specs.Passes.{Start, start_clear}
@@ -33,7 +33,7 @@ use Rattle.mask.specs.MaskLaws.{any_padded}
 use Rattle.instr.specs.Instr.{instr_at}
 use Rattle.instr.specs.InstrLaws.{instr_at_lem}
 use Rattle.instr.specs.Stands.{binds_of}
-use Rattle.execution.specs.Execution.{is_going as code_goes}
+use Rattle.execution.specs.Execution.{RunState, is_going as code_goes}
 use Rattle.action.specs.Run.{Running, finished, ran_instr, ran_next, ran_instrs}
 use Rattle.simulation.specs.Bodies.{LanesAre, begins, read_only, given_all, ins_1, ins_3, ins_5, ins_6, ins_7, ins_8, ins_10, ins_11, ins_12, ins_13}
 use Rattle.simulation.specs.Batches.{left_is, still, halted, BatchIs}
@@ -44,7 +44,7 @@ use Rattle.simulation.specs.Batches as batches
 
 -- ## The instructions
 
-module _ (w : List ℕ) (L : ℕ) (s : State) (start : Start s) (x : ExecutionState) (log index : List ℕ) (on : x.stop ≡ None) (is : LogIs w L s.log s.counters s.changed x log index) where
+module _ (w : List ℕ) (L : ℕ) (s : State) (start : Start s) (x : RunState) (log index : List ℕ) (on : x.stop ≡ None) (is : LogIs w L s.log s.counters s.changed x log index) where
   abbrev m : List ℕ
   m = columns_of s.bindings
 
@@ -62,7 +62,7 @@ module _ (w : List ℕ) (L : ℕ) (s : State) (start : Start s) (x : ExecutionSt
     unfolding acted asked
     ins_2 table args col dst e f =
         subst (λ (live : List Bool). Follows s (ran (LookupWithDefault table args col dst e)) x.stop (LanesAre w L s (ran (LookupWithDefault table args col dst e)) (record { live = live; state = x; log = log; index = index; out = (left (LookupWithDefault table args col dst e)).out })))
-        (sym (given_all w L s start x log index on is k j (asked w m (row_ask w table args col)) (asked w m (entry_ask e)) (λ i. ap is_some (asked_entry w m e i))))
+        (sym (given_all w L s start x log index on is k j (asked w m (row_ask w table args col)) (asked w m (AskEntry e)) (λ i. ap is_some (asked_entry w m e i))))
         (read_only w L s start x log index on is (ran (LookupWithDefault table args col dst e)) (padded s.live) (left (LookupWithDefault table args col dst e)).out (lookup_default w (λ n. leb n L) k j s start table args col dst e f.0.known f.1 f.2))
 
     ins_4 : (table : TableId) (key : Entries) (func : ExternalFunctionId) (args : Entries) (col : ColumnId) (dst : Variable) → Fits w (LookupWithFallback table key func args col dst) → Lanewise (LookupWithFallback table key func args col dst)

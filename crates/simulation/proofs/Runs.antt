@@ -16,7 +16,6 @@ use Rattle.model.specs.Machine.Steps.{begin, end, instructions, step, fresh, run
 use Rattle.model.specs.Laws.Turns.{when_T, when_F}
 use Rattle.model.specs.Laws.Book.{Readable, rule_is}
 use Rattle.model.specs.Laws.Scan.{BatchWords}
-use Rattle.execution.specs.declared.ExecutionState.{ExecutionState}
 use Rattle.action.specs.Run.{Running}
 use Rattle.step.specs.Steps.{start_batch, rule_of, ran_batch}
 use Rattle.simulation.specs.Represents.{machine, LogIs, Follows, sticks, stops, goes, not_going}
@@ -24,7 +23,7 @@ use Rattle.simulation.proofs.Instructions.{instrs_follow}
 use Rattle.model.specs.Laws.Logic.{either}
 use Rattle.model.specs.Laws.Kinds.{step_kind_lem}
 use Rattle.rules.specs.StepLaws.{step_batch, step_prediction}
-use Rattle.execution.specs.Execution.{goes_on, is_going as code_goes}
+use Rattle.execution.specs.Execution.{RunState, goes_on, is_going as code_goes}
 use Rattle.step.specs.StepsLaws.{batch_facts, columns_within}
 use Rattle.answer.specs.Layout.{step_kind}
 use Rattle.answer.specs.AnswerLaws.{step_words}
@@ -52,7 +51,7 @@ module _ (w : List ℕ) (h : Readable w) (L : ℕ) (short : L ≤ 16384) where
     abbrev rule : Rule
     rule = read_rule w (rule_of w at)
 
-    module _ (k : ℕ) (s : State) (x : ExecutionState) (log index : List ℕ) (a : s.status ≡ going) (o : x.stop ≡ None) (is : LogIs w L s.log s.counters s.changed x log index) where
+    module _ (k : ℕ) (s : State) (x : RunState) (log index : List ℕ) (a : s.status ≡ going) (o : x.stop ≡ None) (is : LogIs w L s.log s.counters s.changed x log index) where
       abbrev s₀ : State
       s₀ = begin k rule n columns s
 

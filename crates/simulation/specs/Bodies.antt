@@ -4,7 +4,6 @@ use Rattle.std.specs.Prelude.{◌≡◌, Bool, true, false, ◌&&◌, ◌||◌, 
 use Rattle.std.proofs.Math.Path.{refl, ap, subst}
 use Rattle.std.proofs.Common.{sym, ◌∙◌, arith, ext_get_or, get_or-take, length-take-le}
 use Rattle.std.proofs.Math.Dec.{leb}
-use borrow.Author.Tests.{lt-ltb}
 use Rattle.ids.specs.declared.CounterId.{CounterId}
 use mathlib.Core.List.{List, [], ◌∷◌, map}
 use Rattle.std.proofs.Math.Decide.{dec_lt}
@@ -20,23 +19,21 @@ use Rattle.ids.specs.declared.ColumnId.{ColumnId}
 use Rattle.ids.specs.declared.Variable.{Variable}
 use Rattle.ids.specs.declared.ExternalFunctionId.{ExternalFunctionId}
 use Rattle.instr.specs.declared.QueryEntry.{QueryEntry}
-use Rattle.mask.specs.Masks.{padded, first_lanes, united, but_not}
-use Rattle.mask.specs.MaskLaws.{has_first, has_both, has_padded, is_padded}
+use Rattle.mask.specs.Masks.{padded, united, but_not}
+use Rattle.mask.specs.MaskLaws.{has_both, has_padded, is_padded}
 use Rattle.counter.specs.CounterLaws.{get_or_padded}
 use Rattle.bindings.specs.Columns.{columns_of}
 use Rattle.instr.specs.declared.Entries.{Entries}
 use Rattle.instr.specs.declared.Instr.{Instr}
 use Rattle.instr.specs.declared.Instr.TheVariants.{LookupOrInsertDefault, Lookup, Insert, InsertIfEq, Remove, External, AssertEq, AssertNe, AssertAnyNe, ReadCounter}
 use Rattle.instr.specs.Meaning.{entries_of, writes_of, instr_of}
-use Rattle.lanes.specs.declared.Ask.TheVariants.{Const as AskConst}
-use Rattle.lanes.specs.Lanes.{asked, is_some, or_else, answered_lanes, answered_words}
+use Rattle.lanes.specs.Lanes.{asked, is_some, answered_lanes, answered_words}
 use Rattle.record_log.specs.declared.Change.TheVariants as change
-use Rattle.execution.specs.declared.ExecutionState.{ExecutionState}
-use Rattle.execution.specs.Execution.{Logged}
+use Rattle.execution.specs.Execution.{RunState, Logged}
 use Rattle.predict.specs.Predict.{Served, served_lanes}
 use Rattle.action.specs.Act.{Lanes, acted, row_ask, asking, with_log, with_served}
 use Rattle.simulation.specs.Represents.{machine, LogIs, Follows, follows_map, sticks, stops, goes}
-use Rattle.simulation.specs.Passes.{no_words, Start, Ended, Ends, Waits, dst_is, out_word, length_words, length_both, missed_stuck, missed_lanes, missed_none, waits_words, waits_missed, answered_word, answered_lane}
+use Rattle.simulation.specs.Passes.{no_words, Start, Ended, Ends, Waits, dst_is, out_word, length_words, length_both, missed_stuck, missed_lanes, missed_none, waits_words, waits_missed, answered_lane}
 use Rattle.simulation.specs.Reading.{lookup_first, lookup_drop, external_drop, assert_eq, assert_ne, assert_any_ne_lem}
 use Rattle.simulation.specs.Staging.{Kept, Staged, list_pass, if_pass}
 use Rattle.simulation.specs.Serving.{OutIs, Serving, serve_pass}
@@ -90,7 +87,7 @@ filled_mark (suc n) (suc j) x h = filled_mark n j x (omega arith)
 no_out : (n : ℕ) → n ≤ 256 → OutIs n (replicate n None) no_words
 no_out n l = record { marks = length-replicate n None; size = length-replicate 256 stale; word = λ j h. marks_at 256 j stale (omega arith) ∙ sym (ap or_stale (blank n j)) }
 
-module _ (w : List ℕ) (L : ℕ) (s : State) (start : Start s) (x : ExecutionState) (log index : List ℕ) (on : x.stop ≡ None) (is : LogIs w L s.log s.counters s.changed x log index) where
+module _ (w : List ℕ) (L : ℕ) (s : State) (start : Start s) (x : RunState) (log index : List ℕ) (on : x.stop ≡ None) (is : LogIs w L s.log s.counters s.changed x log index) where
   abbrev m : List ℕ
   m = columns_of s.bindings
 
@@ -191,17 +188,17 @@ module _ (w : List ℕ) (L : ℕ) (s : State) (start : Start s) (x : ExecutionSt
     -- ## A counter's next
 
     pub ins_13 : (c : CounterId) (dst : Variable) → Fits w (ReadCounter c dst) → Lanewise (ReadCounter c dst)
-    unfolding acted body instr_of asked
+    unfolding acted body instr_of
     ins_13 c dst f = goes start.status on (record {
       bindings = refl;
       answers = refl;
       lanes_size = refl;
       marks = length-replicate n (Some next);
       live = refl;
-      out = out_column n (replicate n (Some next)) words start.few (record {
+      out = out_column n (replicate n (Some next)) (replicate 256 given) start.few (record {
         marks = length-replicate n (Some next);
-        size = length_words (asked w m (AskConst given)) (first_lanes 256) no_words;
-        word = λ i h. answered_word (asked w m (AskConst given)) (first_lanes 256) no_words i (omega arith) ∙ rw (has_first 256 i (omega arith), lt-ltb i 256 (omega arith)) (read i h);
+        size = length-replicate 256 given;
+        word = λ i h. marks_at 256 i given (omega (arith, start.few)) ∙ given_is ∙ ap or_stale (sym (filled_mark n i next h));
       });
       is = is;
     })
@@ -212,14 +209,8 @@ module _ (w : List ℕ) (L : ℕ) (s : State) (start : Start s) (x : ExecutionSt
         given : ℕ
         given = get_or x.counters.next c.0 0
 
-        words : List ℕ
-        words = answered_words (asked w m (AskConst given)) (first_lanes 256) no_words
-
         given_is : given ≡ next
         given_is = ap (λ (l : List ℕ). get_or l c.0 0) is.next ∙ get_or_padded s.counters c.0 (omega (arith, is.counted, f.0))
-
-        read : (i : ℕ) → i < n → or_else (only true (asked w m (AskConst given) i)) (get_or no_words i 0) ≡ or_stale (get_or (replicate n (Some next)) i None)
-        read i h = given_is ∙ ap or_stale (sym (filled_mark n i next h))
 
     -- ## The missed lanes are served
 

@@ -28,7 +28,7 @@ use Rattle.predicted_index.specs.RightLaws.{none_ok}
 use Rattle.commit.specs.Commit.{Left, committed_rows}
 use Rattle.record_log.specs.RecordLaws.{records_of}
 use Rattle.commit.specs.CommitLaws.{over_is}
-use Rattle.execution.specs.declared.ExecutionState.{ExecutionState}
+use Rattle.execution.specs.Execution.{RunState}
 use Rattle.refusal.specs.declared.Refusal.TheVariants.{AnswerFull}
 use Rattle.answer.specs.Layout.{Results, results_of, left_by, assembled, assembled_length, Enough}
 use Rattle.answer.specs.AnswerLaws.{Tabled, Told, committed_tabled, enough, assembled_length_lem, assembled_is}
@@ -40,7 +40,7 @@ use Rattle.simulation.specs.Runs.{words_of, RunIs}
 -- ## The start
 
 -- a fresh execution state with the book's counters
-abbrev pub start_state : List ℕ → ExecutionState
+abbrev pub start_state : List ℕ → RunState
 start_state w = record { used = 0; counters = record { next = padded (counters w) }; changed = false; stop = None }
 
 abbrev pub start_progress : List ℕ → Progress

@@ -36,8 +36,7 @@ use Rattle.build.specs.declared.Building.{Building}
 use Rattle.build.specs.Build as code
 use Rattle.record_log.specs.RecordLaws.{Sized}
 use Rattle.execution.specs.declared.Stop.TheVariants.{Spent, Full}
-use Rattle.execution.specs.declared.ExecutionState.{ExecutionState}
-use Rattle.execution.specs.Execution.{goes_on, Logged, after_append}
+use Rattle.execution.specs.Execution.{RunState, goes_on, Logged, after_append}
 use Rattle.predict.specs.declared.Row.{Row}
 use Rattle.predict.specs.Predict as flat
 use Rattle.predict.specs.Predict.{Held, Gotten, gotten}
@@ -65,7 +64,7 @@ pub record HasRow (w : List ℕ) (L t : ℕ) (key : List ℕ) (s : State) (made 
 
 module _ (w : List ℕ) (L : ℕ) (short : L ≤ 16384) (t : TableId) (known : t.0 < table_count w) where
   -- what the code reads of a key is the model's row
-  row_among_lem : {records : List Record} {cs : List Counter} {ch : Bool} {x : ExecutionState} {log index : List ℕ} → LogIs w L records cs ch x log index → (vals : List ℕ)
+  row_among_lem : {records : List Record} {cs : List Counter} {ch : Bool} {x : RunState} {log index : List ℕ} → LogIs w L records cs ch x log index → (vals : List ℕ)
       → row_of home_of w log index (sought_in w t) vals ≡ row_among (table_of (machine w L) t.0) t.0 (front vals (keys_of w t.0)) records
   row_among_lem {records} {index = index} is vals =
       ap (λ (l : List ℕ). row_of home_of w l index (sought_in w t) vals) is.log_is
@@ -75,7 +74,7 @@ module _ (w : List ℕ) (L : ℕ) (short : L ≤ 16384) (t : TableId) (known : t
   pub got_read : {s s' : State} {made : Bool} {r key : List ℕ} {g : Gotten} → HasRow w L t.0 key s made r s' g → (vals : List ℕ) → front vals (keys_of w t.0) ≡ key → find (table_of (machine w L) t.0).keys (table_of (machine w L) t.0).rows key ≡ None → row_of home_of w g.log g.index (sought_in w t) vals ≡ r
   got_read h vals e f = row_among_lem h.is vals ∙ rw (e, f, h.row_is)
 
-module _ (w : List ℕ) (L : ℕ) (short : L ≤ 16384) (s : State) (x : ExecutionState) (log index : List ℕ) (is : LogIs w L s.log s.counters s.changed x log index) (on : x.stop ≡ None)
+module _ (w : List ℕ) (L : ℕ) (short : L ≤ 16384) (s : State) (x : RunState) (log index : List ℕ) (is : LogIs w L s.log s.counters s.changed x log index) (on : x.stop ≡ None)
     (id : TableId) (table : TableOk w id.0) (vals : Entries) (few : vals.count ≤ 16) (ok : (k : ℕ) → k < vals.count → Writable w (write_at w (vals.at + 2 * k)))
     (o : Site) (b : Bindings) (m : List ℕ) (reads_as : ReadsAs b o.lane m) (key : List ℕ) (a : Args) (key_is : ListIs key (keys_of w id.0) a) where
   abbrev t : ℕ

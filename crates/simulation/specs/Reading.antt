@@ -20,13 +20,13 @@ use Rattle.instr.specs.declared.Instr.TheVariants as instr
 use Rattle.instr.specs.Meaning.{entry_of, entries_of, instr_of}
 use Rattle.instr.specs.Stands.{Short}
 use Rattle.lanes.specs.declared.Ask.{Ask}
-use Rattle.lanes.specs.declared.Ask.TheVariants.{External}
+use Rattle.lanes.specs.declared.Ask.TheVariants.{External, Entry as AskEntry}
 use Rattle.lanes.specs.declared.Test.{Test}
 use Rattle.lanes.specs.declared.Test.TheVariants.{Eq, Ne, AnyNe}
 use Rattle.mask.specs.Masks.{padded, united}
 use Rattle.action.specs.Act.{row_ask}
 use Rattle.lanes.specs.LaneLaws.{asked_entry}
-use Rattle.lanes.specs.Lanes.{entry_ask, asked, holds, answered_lanes, answered_words, kept}
+use Rattle.lanes.specs.Lanes.{asked, holds, answered_lanes, answered_words, kept}
 use Rattle.simulation.specs.Turns.{Answers, lookup_does, invoke_does, default_does, eq_does, ne_does, any_ne_does}
 use Rattle.simulation.specs.Passes.{no_words, missed_lanes, Start, Ends, Waits, drop_pass, default_pass, test_pass, first_pass, fallback_pass}
 
@@ -94,7 +94,7 @@ module _ (w : List ℕ) (room : ℕ → Bool) (k j : ℕ) (s : State) (start : S
 
   -- 2
   pub lookup_default : (table : TableId) (args : Entries) (col : ColumnId) (dst : Variable) (e : QueryEntry) → table.0 < table_count w → Reads w args → Named (entry_of e)
-      → EndsGiven w s (body E k j (instr_of w (instr.LookupWithDefault table args col dst e)) s) (row_ask w table args col) (entry_ask e)
+      → EndsGiven w s (body E k j (instr_of w (instr.LookupWithDefault table args col dst e)) s) (row_ask w table args col) (AskEntry e)
   unfolding body instr_of
   lookup_default table args col dst e l r n =
       let ask = asked_in w s (row_ask w table args col) in

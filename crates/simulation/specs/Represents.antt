@@ -31,15 +31,14 @@ use Rattle.lanes.specs.Lanes.{listed}
 use Rattle.record_log.specs.RecordLaws.{Sized}
 use Rattle.execution.specs.declared.Stop.{Stop}
 use Rattle.execution.specs.declared.Stop.TheVariants.{Spent, Full}
-use Rattle.execution.specs.declared.ExecutionState.{ExecutionState}
-use Rattle.execution.specs.Execution.{goes_on}
+use Rattle.execution.specs.Execution.{RunState, goes_on}
 
 -- the book's machine with L words of log
 abbrev pub machine : List ℕ → ℕ → Env
 machine w L = env_of w (λ n. leb n L)
 
 -- what the run keeps, and the words of the log and the index, are those of a log of records, counters and a flag
-pub record LogIs (w : List ℕ) (L : ℕ) (records : List Record) (counters : List Counter) (changed : Bool) (x : ExecutionState) (log index : List ℕ) : Type 0 where
+pub record LogIs (w : List ℕ) (L : ℕ) (records : List Record) (counters : List Counter) (changed : Bool) (x : RunState) (log index : List ℕ) : Type 0 where
   pub fits : log_words records ≤ L
   pub log_is : log ≡ log_of records L
   pub used : x.used ≡ log_words records

@@ -20,8 +20,7 @@ use Rattle.model.specs.Laws.Lists.{least_none}
 use Rattle.model.specs.Laws.Book.{Readable, few_steps}
 use Rattle.rules.specs.RuleLaws.{at_tab}
 use Rattle.rules.specs.StepLaws.{step_batch, step_prediction}
-use Rattle.execution.specs.declared.ExecutionState.{ExecutionState}
-use Rattle.execution.specs.Execution.{goes_on}
+use Rattle.execution.specs.Execution.{RunState, goes_on}
 use Rattle.predict.specs.Predict.{Gotten}
 use Rattle.action.specs.Run.{Running}
 use Rattle.step.specs.Steps.{IsStep, ran_batch, asked_row}
@@ -30,7 +29,7 @@ use Rattle.answer.specs.Layout.{step_kind}
 use Rattle.answer.specs.AnswerLaws.{step_words}
 use Rattle.step_bodies.specs.Steps.{placed}
 use Rattle.answer.specs.Scratch.{Scratch, scratch_more}
-use Rattle.run.specs.Progress.{Ran, halted, batch_told, row_told, body_of, row_body, batch_step, prediction_step, ran_step, ran_next, ran_steps}
+use Rattle.run.specs.Progress.{Ran, halted, batch_told, row_told, body_of, row_body, batch_step, prediction_step, prediction_at, ran_step, ran_next, ran_steps}
 use Rattle.run.specs.Progress as flat
 use Rattle.simulation.specs.Represents.{machine, LogIs, status_of, Follows, sticks, stops, goes}
 use Rattle.simulation.specs.Steps.{RowDone, prediction_follows}
@@ -69,7 +68,7 @@ words_more x as' = ap (λ (l : List Answer). join (map step_words l)) (reverse-c
 -- ## One answer more
 
 module _ (w : List ℕ) (L k : ℕ) (below : k < 64) (s : State) (a : Ran) (r : RunIs w L k s a) where
-  pub answered_more : (x : Answer) (s' : State) (z : ExecutionState) (b log index : List ℕ) → s'.answers ≡ x ∷ s.answers → (step_body x).kind ≡ kind_of_step w k → LogIs w L s'.log s'.counters s'.changed z log index
+  pub answered_more : (x : Answer) (s' : State) (z : RunState) (b log index : List ℕ) → s'.answers ≡ x ∷ s.answers → (step_body x).kind ≡ kind_of_step w k → LogIs w L s'.log s'.counters s'.changed z log index
       → RunIs w L (suc k) s' (record { progress = flat.told z (step_words x) a.progress; bindings = b; log = log; index = index; answer = placed (step_words x) a.progress.at a.answer })
   unfolding tab
   answered_more x s' z b log index e kind is = record {
@@ -150,7 +149,7 @@ module _ (w : List ℕ) (h : Readable w) (L : ℕ) (short : L ≤ 16384) (no_ste
       key_within = omega (arith, writes_within h is_step_lem kind)
 
       pub prediction_turn : Runs w L (suc k) s₂ (prediction_step w i a)
-      unfolding prediction_step
+      unfolding prediction_at
       prediction_turn = by (prediction_follows w h L short at (end_of w i) (prediction_facts h is_step_lem kind) key_within fit_prediction k s a.progress.state a.bindings a.log a.index going-s going-a r.is)
         where
           Done : Type 0

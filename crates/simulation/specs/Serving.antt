@@ -33,8 +33,7 @@ use Rattle.instr.specs.Instr.{write_at}
 use Rattle.instr.specs.Meaning.{entry_of, entries_of, writes_of}
 use Rattle.lanes.specs.Lanes.{listed, asked}
 use Rattle.execution.specs.Execution.{goes_on, is_going}
-use Rattle.predict.specs.declared.Asking.{Asking}
-use Rattle.predict.specs.Predict.{Held, Gotten, Served, gotten, taken, taken_word, served_lane, served_lanes}
+use Rattle.predict.specs.Predict.{Asked, Held, Gotten, Served, gotten, taken, taken_word, served_lane, served_lanes}
 use Rattle.action.specs.Act.{row_ask, asking}
 use Rattle.simulation.specs.Represents.{machine, LogIs, Follows, sticks, stops, goes, ListIs, list_read, key_front, pass_ends}
 use Rattle.simulation.specs.Building.{Writable}
@@ -72,7 +71,7 @@ module _ (w : List ℕ) (L : ℕ) (short : L ≤ 16384) (s₀ : State) (small : 
   abbrev col : ℕ
   col = column.0
 
-  abbrev ask : Asking
+  abbrev ask : Asked
   ask = asking w id args vals column
 
   abbrev m : List ℕ

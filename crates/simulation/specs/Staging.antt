@@ -35,8 +35,7 @@ use Rattle.lanes.specs.Lanes.{listed, holds, kept}
 use Rattle.record_log.specs.RecordLaws.{Sized}
 use Rattle.record_log.specs.declared.Change.{Change}
 use Rattle.record_log.specs.declared.Change.TheVariants.{Insert, Remove}
-use Rattle.execution.specs.declared.ExecutionState.{ExecutionState}
-use Rattle.execution.specs.Execution.{goes_on, is_going as code_goes, changing, Logged, after_append, staged, record_kind, staged_lane, staged_lanes}
+use Rattle.execution.specs.Execution.{RunState, goes_on, is_going as code_goes, changing, Logged, after_append, staged, record_kind, staged_lane, staged_lanes}
 use Rattle.simulation.specs.Represents.{machine, LogIs, Follows, sticks, stops, goes, ListIs, list_read, front_list, pass_ends}
 
 -- a state that has the lanes of another
@@ -57,7 +56,7 @@ not_predicted Remove e = omega arith
 
 module _ (w : List ℕ) (L : ℕ) where
   -- one record more, in the code
-  module _ (records : List Record) (cs : List Counter) (ch : Bool) (x : ExecutionState) (log index : List ℕ) (is : LogIs w L records cs ch x log index) (r : Record) (row : List ℕ) (n : ℕ) (e : record_of r.kind r.table row n ≡ record_words r) where
+  module _ (records : List Record) (cs : List Counter) (ch : Bool) (x : RunState) (log index : List ℕ) (is : LogIs w L records cs ch x log index) (r : Record) (row : List ℕ) (n : ℕ) (e : record_of r.kind r.table row n ≡ record_words r) where
     abbrev all : List Record
     all = records ++ (r ∷ [])
 

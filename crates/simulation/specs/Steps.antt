@@ -44,7 +44,7 @@ use Rattle.tables.specs.Tables as tables
 use Rattle.tables.specs.Tables.{front}
 use Rattle.rules.specs.RuleLaws.{at_tab, At, small_here}
 use Rattle.rules.specs.StepLaws.{batch_test, prediction_test}
-use Rattle.execution.specs.declared.ExecutionState.{ExecutionState}
+use Rattle.execution.specs.Execution.{RunState}
 use Rattle.action.specs.Run.{Running}
 use Rattle.step.specs.Steps.{lane_count, start_batch, rule_of, ran_batch, row_asked, asked_row, row_answered}
 use Rattle.step.specs.StepsLaws.{lane_count_more, lane_count_most}
@@ -93,7 +93,7 @@ module _ (w : List ℕ) (h : Readable w) (L : ℕ) (short : L ≤ 16384) where
         let p : part w (at + 3 + u * n) n ≡ c = some_inj (sym (at_tab (λ c. part w (at + 3 + c * n) n) v u l) ∙ e) in
         ap length (sym p) ∙ length_part w (at + 3 + u * n) n (omega (arith, row_within u v n l)) ∙ lane_count_more v n (λ z. omega arith)
 
-    module _ (k : ℕ) (s : State) (x : ExecutionState) (log index : List ℕ) (a : s.status ≡ going) (o : x.stop ≡ None) (is : LogIs w L s.log s.counters s.changed x log index) where
+    module _ (k : ℕ) (s : State) (x : RunState) (log index : List ℕ) (a : s.status ≡ going) (o : x.stop ≡ None) (is : LogIs w L s.log s.counters s.changed x log index) where
       abbrev s₀ : State
       s₀ = begin k rule n columns s
 
@@ -205,7 +205,7 @@ module _ (w : List ℕ) (h : Readable w) (L : ℕ) (short : L ≤ 16384) where
     ok_writes : (k : ℕ) → k < (row_asked w at).vals.count → Writable w (write_at w ((row_asked w at).vals.at + 2 * k))
     ok_writes k l = writable_at w h end_at 1 2 (at + 2 + long + 1 + 2 * k) (words.writes k l)
 
-    module _ (k : ℕ) (s : State) (x : ExecutionState) (m log index : List ℕ) (on : s.status ≡ going) (o : x.stop ≡ None) (is : LogIs w L s.log s.counters s.changed x log index) where
+    module _ (k : ℕ) (s : State) (x : RunState) (m log index : List ℕ) (on : s.status ≡ going) (o : x.stop ≡ None) (is : LogIs w L s.log s.counters s.changed x log index) where
       abbrev held : Held
       held = record { state = x; log = log; index = index }
 

@@ -1,45 +1,50 @@
 -- The run is one from the start and from zeros, so `conclude` may go on from it (`may_conclude`), and what that ensures is `Concludes` (`book_concludes`).
-use Prim.Native.Nat.{ℕ}
-use mathlib.Core.Path.{◌≡◌, refl, ap, ◌∙◌}
-use native.Mathlib.Omega.{arith}
-use lib.ListN.{length, length-replicate, replicate}
-use Rattle.model.specs.Laws.Book.{few_entries}
-use Rattle.execution.specs.declared.ExecutionState.{ExecutionState}
-use Rattle.run.specs.Progress.{as_progress}
-use Rattle.simulation.specs.Ends.{start_progress}
-use Rattle.engine.specs.CodeLaws.{may_conclude, book_concludes}
+use Rattle.std.proofs.Common.{◌≡◌, ◌∙◌, ℕ, List, length, refl, sym, ap, subst, rules}
+use lib.ListN.{replicate}
+use Rattle.execution.specs.Execution.{RunState}
+use Rattle.run.specs.Progress.{Progress}
+use Rattle.simulation.specs.Ends.{start_state, start_progress}
+use Rattle.engine.specs.Engine.{lent_of, Runnable}
+use Rattle.engine.specs.CodeLaws.{may_conclude, book_concludes, concludes_as}
 use Rattle.engine.proofs.run_book.Goals as goal
-use Rattle.engine.proofs.run_book.Goals.{After-start}
-
-pub of-requires : goal.of-requires
-of-requires c = few_entries c.args.words.now c.requires.0.readable
-
-pub invariant_of-run : goal.invariant_of-run
-invariant_of-run c =
-    let p = c.requires in
-    rw c.start.ensures (record { ready = record { used = omega arith; short = p.4; slots = ap length p.2 ∙ length-replicate {A = ℕ} 8192 0 } })
+use Rattle.engine.proofs.run_book.Goals.{After-of-book, After-start}
 
 pub run_steps-requires : goal.run_steps-requires
-run_steps-requires c = (refl, refl, ap length c.requires.1 ∙ length-replicate {A = ℕ} 8192 0)
+run_steps-requires c = (refl, refl)
+
+-- the book's words are those given
+may_run : (c : After-of-book) → Runnable c.of-book.result.words.now
+may_run c = subst Runnable (sym c.of-book.ensures) c.requires.0
 
 -- with no step answered, the state is the one before the first step
-fresh : (c : After-start) → as_progress (record { done = 0; at = 0; lengths = replicate 64 0 }) c.start.result ≡ start_progress c.args.words.now
-fresh c = ap (λ (x : ExecutionState). as_progress (record { done = 0; at = 0; lengths = replicate 64 0 }) x) c.start.ensures
+fresh : (w : List ℕ) (x : RunState) → x ≡ start_state w → ◌≡◌ {A = Progress} (record { state = x; done = 0; at = 0; lengths = replicate 64 0 }) (start_progress w)
+fresh w x e = ap (λ (x : RunState). record { state = x; done = 0; at = 0; lengths = replicate 64 0 }) e
 
-pub conclude_run-requires : goal.conclude_run-requires
-conclude_run-requires c =
+pub conclude-requires : goal.conclude-requires
+conclude-requires c =
     let p = c.requires in
     let a = c.args in
     let r = c.run_steps in
-    let s = r.ensures.same.size in (
+    let w = c.of-book.result.words.now in
+    let begun = c.start.ensures in
+    let s = r.ensures.same.0.size ∙ ap length begun.log.1 in
+    let at = goal.at.conclude-requires c in (
       r.ensures.fits.0,
       p.5,
-      may_conclude a.words.now p.0 a.bindings.now a.index.now a.log.now a.answer.now p.4 p.2 p.3 p.6 _ (fresh (goal.at.conclude_run-requires c).After-start) _ r.ensures.is s r.ensures.fits.1 (omega (arith, r.new.run.ready.used, s)),
+      may_conclude w (may_run at.After-of-book) a.bindings.now a.index.now a.log.now a.answer.now p.4 p.2 p.3 p.6 _ (fresh w _ begun.is) _ (rw begun.log.1 at r.ensures.is) s _ c.left.ensures.state _ c.left.ensures.log r.ensures.fits.1,
     )
 
+-- the words lent for the answer hold what the page holds
 pub returns : goal.returns
 returns c =
-    let p = c.requires in
+    concludes_as c.args.words.now (lent_of c.args.bindings.now c.args.index.now c.args.log.now c.args.tables.now c.args.answer.now) c.conclude.result {ws = c.conclude.new.p.page.now.words.now}
+    (search rules)
+    (let p = c.requires in
     let a = c.args in
     let r = c.run_steps in
-    book_concludes a.words.now p.0 a.bindings.now a.index.now a.log.now a.answer.now p.4 p.2 p.3 p.6 _ (fresh (goal.at.returns c).After-start) _ r.ensures.is r.ensures.same.size r.auto.answer a.tables.now p.5 _ c.conclude_run.ensures
+    let w = c.of-book.result.words.now in
+    let begun = c.start.ensures in
+    let at = goal.at.returns c in
+    let s = r.ensures.same.0.size ∙ ap length begun.log.1 in
+    let done = book_concludes w (may_run at.After-of-book) a.bindings.now a.index.now a.log.now a.answer.now p.4 p.2 p.3 p.6 _ (fresh w _ begun.is) _ (rw begun.log.1 at r.ensures.is) s _ c.left.ensures.state _ c.left.ensures.log r.ensures.same.1.words.size a.tables.now p.5 _ c.conclude.ensures.is in
+    rw c.of-book.ensures at done)

@@ -1,23 +1,26 @@
--- A prediction's body has at most 17 words, as a row has 16 at most (`row_most`).
-use Prim.Native.Nat.{◌+◌, ◌≤◌}
-use native.Mathlib.Omega.{arith}
-use Rattle.run.specs.ProgressLaws.{row_most}
+-- A prediction's body has at most 17 words, as a row has 16 at most (`asked_most`).
+use Rattle.std.proofs.Common.{◌+◌, ◌≤◌, refl, arith}
+use Rattle.step_bodies.specs.Page.{places_same}
+use Rattle.run.specs.ProgressLaws.{asked_most}
 use Rattle.run.proofs.prediction_step.Goals as goal
-use Rattle.run.proofs.prediction_step.Goals.{After-write_row-end}
+use Rattle.run.proofs.prediction_step.Goals.{After-write_row}
 
 -- a prediction's body has at most 17 words
-most : (c : After-write_row-end) → c.write_row-end.result ≤ c.args.p.now.at + 17
+most : (c : After-write_row) → c.write_row.new.page.at ≤ c.args.p.now.page.now.at + 17
 most c =
-    let q = c.requires in
+    let a = c.args.asked in
     let e = c.run_prediction-made.new.run in
-    omega (arith, c.write_row-end.ensures.end, row_most q.0 q.2 q.3 e.log.now e.index.now)
+    omega (arith, c.write_row.ensures.at, asked_most a.indexed.book.readable a.asks e.state.log.words.now e.index.now)
 
 pub advance-requires : goal.advance-requires
 advance-requires c =
     let q = c.requires in
-    (q.4.done, omega (arith, c.write_row-end.ensures.end), omega (arith, most (goal.at.advance-requires c).After-write_row-end, q.4.at))
+    (q.done, omega (arith, c.write_row.ensures.at), omega (arith, most (goal.at.advance-requires c).After-write_row, q.at))
 
 pub returns-clause-fits : goal.returns-clause-fits
 returns-clause-fits c =
-    let small = most (goal.at.returns-clause-fits c).After-write_row-end in
+    let small = most (goal.at.returns-clause-fits c).After-write_row in
     rw c.advance.ensures (record { done = omega arith; at = omega (arith, small) })
+
+pub returns-clause-same : goal.returns-clause-same
+returns-clause-same c = (c.run_prediction-made.ensures.same, rw c.advance.ensures (record { page = refl; words = places_same c.write_row.ensures }))
