@@ -1,10 +1,10 @@
 -- The index stays that of the rows: a row appended has the home of its key, and values that are merged are no words of a key.
-use Prim.Native.Nat.{ℕ, zero, suc, ◌+◌, ◌-◌, ◌*◌, ◌≤◌, ◌<◌}
-use Rattle.std.specs.Prelude.{◌≡◌, ◌≢◌, ◌⊎◌, Bool, cond, List, ◌++◌, get_or, take, replicate, Option, None, Some}
+use Prim.Native.Nat.{ℕ, ◌+◌, ◌-◌, ◌*◌, ◌≤◌, ◌<◌}
+use Rattle.std.specs.Prelude.{◌≡◌, ◌≢◌, ◌⊎◌, Bool, ◌&&◌, not, cond, List, ◌++◌, get_or, take, replicate, Option, None, Some}
 use Rattle.std.proofs.Math.Path.{refl, sym, ap}
-use Rattle.std.proofs.Common.{◌∙◌, zero-add, mul-le-mul_left, mul-one, add-one, arith}
+use Rattle.std.proofs.Common.{◌∙◌, subst, zero-add, mul-le-mul_left, mul-one, add-one, arith}
 use Rattle.std.proofs.Math.Logic.{inl, inr}
-use Rattle.std.proofs.Math.Bool.{true, false}
+use Rattle.std.proofs.Math.Bool.{true, false, true≢false}
 use Rattle.std.proofs.Math.Decide.{dec_lt}
 use Rattle.std.proofs.Math.Dec.{leb}
 use borrow.Author.Tests.{leb-true}
@@ -19,32 +19,31 @@ use Rattle.words.specs.Filled.{tab_agree}
 use Rattle.tables.specs.declared.TableInfo.{TableInfo}
 use Rattle.tables.specs.Tables.{same_words, row_at, found_row}
 use Rattle.tables.specs.TablesLaws.{row_within}
-use Rattle.hash_index.specs.Index.{home_of, home_at, home_in, added, indexed}
-use Rattle.commit.specs.Rows.{Rows, Sound, Stand, grown, overrun, new_info, appended, merged_at}
-use Rattle.commit.specs.Indexed.{index_for}
+use Rattle.hash_index.specs.Index.{home_of, home_at, home_in, added, indexed, Tails}
+use Rattle.hash_index.specs.IndexLaws.{indexed_tails}
+use Rattle.hash_index.specs.SearchLaws.{row_home_below}
+use Rattle.commit.specs.Rows.{Rows, Sound, Stand, grown, overrun, new_info, has_room, appended, merged_at}
+use Rattle.commit.specs.Indexed.{index_for, IndexedRows}
 use Rattle.commit.specs.MergeLaws.{length_merge, sets_other, sets_here}
 
 -- ## None, or that of all rows
 
-module _ (i : TableInfo) (index : List ℕ) where
-  -- an index of no words is as good for any rows
-  pub none_stays : (s s' : Rows) → length index ≡ 0 → index ≡ index_for i s (length index) → index ≡ index_for i s' (length index)
-  unfolding index_for
-  none_stays s s' z e = e ∙ ap (index_for i s) z ∙ sym (ap (index_for i s') z)
+module _ (i : TableInfo) where
+  -- no index is as good for any rows
+  pub none_stays : (s s' : Rows) → IndexedRows i s None → IndexedRows i s' None
+  none_stays s s' h = tt
 
-  module _ (s : Rows) where
-    pub index_of : index ≡ index_for i s (length index) → (length index ≡ 0) ⊎ (index ≡ indexed (home_in s.words (new_info i s.part)) s.part.count)
-    unfolding index_for
-    index_of = by (length index) refl
-      where
-        by : (n : ℕ) → length index ≡ n → index ≡ index_for i s n → (length index ≡ 0) ⊎ (index ≡ indexed (home_in s.words (new_info i s.part)) s.part.count)
-        by zero l e = inl l
-        by (suc n) l e = inr e
+  pub index_of : (s : Rows) (index : Option (List ℕ)) → IndexedRows i s index → (index ≡ None) ⊎ (index ≡ Some (indexed (home_in s.words (new_info i s.part)) s.part.count))
+  index_of s None h = inl refl
+  index_of s (Some x) h = inr (ap Some h.1)
 
-    pub of_index : (n : ℕ) → n ≢ 0 → index ≡ indexed (home_in s.words (new_info i s.part)) s.part.count → index ≡ index_for i s n
-    unfolding index_for
-    of_index zero l e = absurd (l refl)
-    of_index (suc n) l e = e
+  pub of_index : (s : Rows) (x : List ℕ) → length s.words ≤ 16384 → x ≡ indexed (home_in s.words (new_info i s.part)) s.part.count → IndexedRows i s (Some x)
+  of_index s x few e = (few, e)
+
+-- other rows that have the same index
+pub same_indexed : (i : TableInfo) (s s' : Rows) → length s'.words ≤ 16384 → index_for i s ≡ index_for i s' → (index : Option (List ℕ)) → IndexedRows i s index → IndexedRows i s' index
+same_indexed i s s' few e None h = tt
+same_indexed i s s' few e (Some x) h = (few, h.1 ∙ e)
 
 -- ## Homes
 
@@ -81,10 +80,8 @@ module _ (i : TableInfo) (ok : Sound i) (row : List ℕ) (len : length row ≡ i
           same : j ≡ r → ⊥
           same z = omega (arith, e, ap (λ (y : ℕ). y * i.width) z)
 
-  pub merge_indexed : (key : List ℕ) (p : ℕ) → found_row s.words table key ≡ Some p → (n : ℕ) → index_for i s n ≡ index_for i (merged_at i row p s) n
-  unfolding index_for
-  merge_indexed key p e zero = refl
-  merge_indexed key p e (suc n) =
+  pub merge_indexed : (key : List ℕ) (p : ℕ) → found_row s.words table key ≡ Some p → index_for i s ≡ index_for i (merged_at i row p s)
+  merge_indexed key p e =
       let values = drop i.keys row in
       let old = part s.words (p + i.keys) (length values) in
       let new = merge_words i.merge old values in
@@ -98,27 +95,26 @@ module _ (i : TableInfo) (ok : Sound i) (row : List ℕ) (len : length row ≡ i
   longer = record { words = paste s.words s.part.used row (length row); part = grown s.part (length row) }
 
   -- a row that had no room
-  pub uncounted : (appended row s).part.count ≡ s.part.count → (n : ℕ) → index_for i s n ≡ index_for i (appended row s) n
-  unfolding appended index_for
+  pub uncounted : has_room row s ≡ false → index_for i s ≡ index_for i (appended row s)
+  unfolding appended
   uncounted = by s.part.over (leb (s.part.used + length row) (length s.words))
     where
-      by : (b c : Bool) → (cond b s (cond c longer (record { words = s.words; part = overrun s.part }))).part.count ≡ s.part.count → (n : ℕ) → index_for i s n ≡ index_for i (cond b s (cond c longer (record { words = s.words; part = overrun s.part }))) n
-      by true c e n = refl
-      by false false e zero = refl
-      by false false e (suc n) = refl
-      by false true e n = absurd (omega arith)
+      by : (b c : Bool) → (not b && c) ≡ false → index_for i s ≡ index_for i (cond b s (cond c longer (record { words = s.words; part = overrun s.part })))
+      by true c e = refl
+      by false false e = refl
+      by false true e = absurd (true≢false e)
 
   -- one that had
   abbrev pub Counted : Type 0
-  Counted = (appended row s).part.count ≢ s.part.count
+  Counted = has_room row s ≡ true
 
-  has_room : Counted → (appended row s ≡ longer) × (s.part.used + length row ≤ length s.words)
+  grows : Counted → (appended row s ≡ longer) × (s.part.used + length row ≤ length s.words)
   unfolding appended
-  has_room = by s.part.over (leb (s.part.used + length row) (length s.words)) refl
+  grows = by s.part.over (leb (s.part.used + length row) (length s.words)) refl
     where
-      by : (b c : Bool) → leb (s.part.used + length row) (length s.words) ≡ c → ((cond b s (cond c longer (record { words = s.words; part = overrun s.part }))).part.count ≢ s.part.count) → (cond b s (cond c longer (record { words = s.words; part = overrun s.part })) ≡ longer) × (s.part.used + length row ≤ length s.words)
-      by true c e n = absurd (n refl)
-      by false false e n = absurd (n refl)
+      by : (b c : Bool) → leb (s.part.used + length row) (length s.words) ≡ c → (not b && c) ≡ true → (cond b s (cond c longer (record { words = s.words; part = overrun s.part })) ≡ longer) × (s.part.used + length row ≤ length s.words)
+      by true c e n = absurd (true≢false (sym n))
+      by false false e n = absurd (true≢false (sym n))
       by false true e n = (refl, leb-true (s.part.used + length row) (length s.words) e)
 
   module _ (counted : Counted) where
@@ -126,7 +122,7 @@ module _ (i : TableInfo) (ok : Sound i) (row : List ℕ) (len : length row ≡ i
     words = longer.words
 
     room : s.part.used + length row ≤ length s.words
-    room = (has_room counted).1
+    room = (grows counted).1
 
     pub row_counted : s.part.count < length s.words
     row_counted = omega (arith, room, len, ok.some, st.used, mul-le-mul_left s.part.count ok.some, mul-one s.part.count)
@@ -144,5 +140,9 @@ module _ (i : TableInfo) (ok : Sound i) (row : List ℕ) (len : length row ≡ i
     unfolding indexed
     one_more index is = rw (add-one, new_home) (ap (added s.part.count (home_at row 0 i.keys)) (is ∙ old_homes))
 
-    pub append_indexed : (index : List ℕ) → index ≡ indexed (home_in s.words table) s.part.count → added s.part.count (home_at row 0 i.keys) index ≡ indexed (home_in (appended row s).words (new_info i (appended row s).part)) (appended row s).part.count
-    append_indexed index is = rw (has_room counted).0 (one_more index is)
+    -- what `add` asks for, and what it leaves
+    pub append_tails : (index : List ℕ) → index ≡ index_for i s → Tails s.part.count index
+    append_tails index is = subst (Tails s.part.count) (sym is) (indexed_tails (home_in s.words table) s.part.count (row_home_below s.words table))
+
+    pub append_indexed : (index : List ℕ) → index ≡ index_for i s → added s.part.count (home_at row 0 i.keys) index ≡ index_for i (appended row s)
+    append_indexed index is = rw (grows counted).0 (one_more index is)

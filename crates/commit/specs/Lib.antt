@@ -1,7 +1,10 @@
 pub mod Rows
 pub mod TableRows
+pub mod NotedRows
 pub mod Indexed
 pub mod Walk
+pub mod Keys
+pub mod KeysLeft
 pub mod Commit
 pub mod MergeRule
 pub mod MergeLaws

@@ -8,6 +8,7 @@ use Rattle.model.specs.Commit.{merge_word, merge_words}
 use Rattle.model.specs.Laws.Lists.{length_tab, get_or_tab}
 use Rattle.model.specs.Laws.Bodies.{length_part}
 use Rattle.record_log.specs.LogLaws.{store_more}
+use Rattle.commit.specs.MergeRule.{merged}
 
 -- a rule that is none of 1, 2 and 3 keeps
 pub merge_rest : (m old new : ℕ) → (m ≡ 1 → ⊥) → (m ≡ 2 → ⊥) → (m ≡ 3 → ⊥) → old ≡ merge_word m old new
@@ -24,11 +25,31 @@ length_merge m [] new = refl
 length_merge m (a ∷ old) [] = refl
 length_merge m (a ∷ old) (b ∷ new) = ap suc (length_merge m old new)
 
-get_or_merge : (m : ℕ) (old new : List ℕ) (i : ℕ) → i < length old → i < length new → get_or (merge_words m old new) i 0 ≡ merge_word m (get_or old i 0) (get_or new i 0)
+pub get_or_merge : (m : ℕ) (old new : List ℕ) (i : ℕ) → i < length old → i < length new → get_or (merge_words m old new) i 0 ≡ merge_word m (get_or old i 0) (get_or new i 0)
 get_or_merge m [] new i h l = absurd (omega arith)
 get_or_merge m (a ∷ old) [] i h l = absurd (omega arith)
 get_or_merge m (a ∷ old) (b ∷ new) zero h l = refl
 get_or_merge m (a ∷ old) (b ∷ new) (suc i) h l = get_or_merge m old new i (omega arith) (omega arith)
+
+-- ## Merged by any rule
+
+module _ (f : ℕ → ℕ → ℕ) where
+  -- by a rule of the model's
+  pub merged_as : (m : ℕ) → ((old new : ℕ) → f old new ≡ merge_word m old new) → (old new : List ℕ) → merged f old new ≡ merge_words m old new
+  merged_as m e [] new = refl
+  merged_as m e (a ∷ old) [] = refl
+  merged_as m e (a ∷ old) (b ∷ new) = rw (e a b) (ap (λ (l : List ℕ). merge_word m a b ∷ l) (merged_as m e old new))
+
+  length_merged : (old new : List ℕ) → length (merged f old new) ≡ length old
+  length_merged [] new = refl
+  length_merged (a ∷ old) [] = refl
+  length_merged (a ∷ old) (b ∷ new) = ap suc (length_merged old new)
+
+  get_or_merged : (old new : List ℕ) (i : ℕ) → i < length old → i < length new → get_or (merged f old new) i 0 ≡ f (get_or old i 0) (get_or new i 0)
+  get_or_merged [] new i h l = absurd (omega arith)
+  get_or_merged (a ∷ old) [] i h l = absurd (omega arith)
+  get_or_merged (a ∷ old) (b ∷ new) zero h l = refl
+  get_or_merged (a ∷ old) (b ∷ new) (suc i) h l = get_or_merged old new i (omega arith) (omega arith)
 
 -- a word that is none of those stored is as it was
 pub sets_other : (vs l : List ℕ) (at p : ℕ) → ((i : ℕ) → i < length vs → p ≢ at + i) → get_or (sets l at vs) p 0 ≡ get_or l p 0
@@ -45,25 +66,25 @@ sets_here (v ∷ vs) l at (suc i) h q =
     let e : at + suc i ≡ suc at + i = omega arith in
     ap (λ (k : ℕ). get_or (sets (set l at v) (suc at) vs) k 0) e ∙ sets_here vs (set l at v) (suc at) i (omega (arith, length-set l at v)) (omega arith)
 
-module _ (rule : ℕ) (l : List ℕ) (at : ℕ) (new : List ℕ) where
+module _ (f : ℕ → ℕ → ℕ) (l : List ℕ) (at : ℕ) (new : List ℕ) where
   -- word i of the values, merged
   abbrev pub merged_word : ℕ → ℕ
-  merged_word i = merge_word rule (get_or l (at + i) 0) (get_or new i 0)
+  merged_word i = f (get_or l (at + i) 0) (get_or new i 0)
 
   -- a turn: the word that is read is an old one
-  pub merge_turn : (i : ℕ) (cur : List ℕ) (v : ℕ) → cur ≡ sets l at (tab merged_word i) → v ≡ merge_word rule (get_or cur (at + i) 0) (get_or new i 0) → set cur (at + i) v ≡ sets l at (tab merged_word (i + 1))
+  pub merge_turn : (i : ℕ) (cur : List ℕ) (v : ℕ) → cur ≡ sets l at (tab merged_word i) → v ≡ f (get_or cur (at + i) 0) (get_or new i 0) → set cur (at + i) v ≡ sets l at (tab merged_word (i + 1))
   merge_turn i cur v h e =
       let n = length_tab merged_word i in
       let old : get_or cur (at + i) 0 ≡ get_or l (at + i) 0 = ap (λ (x : List ℕ). get_or x (at + i) 0) h ∙ sets_other (tab merged_word i) l at (at + i) (λ k q z. omega (arith, n)) in
       rw (e, old, h) (store_more merged_word i l at)
 
-  pub merge_all : at + length new ≤ length l → tab merged_word (length new) ≡ merge_words rule (part l at (length new)) new
+  pub merge_all : at + length new ≤ length l → tab merged_word (length new) ≡ merged f (part l at (length new)) new
   merge_all h =
       let n = length_part l at (length new) h in
-      let m = length_merge rule (part l at (length new)) new in
-      ext_get_or 0 (tab merged_word (length new)) (merge_words rule (part l at (length new)) new) (length_tab merged_word (length new) ∙ sym (m ∙ n))
+      let m = length_merged f (part l at (length new)) new in
+      ext_get_or 0 (tab merged_word (length new)) (merged f (part l at (length new)) new) (length_tab merged_word (length new) ∙ sym (m ∙ n))
       (λ i q.
       let b : i < length new = omega (arith, length_tab merged_word (length new)) in
       get_or_tab merged_word (length new) i 0 b
-      ∙ ap (λ (x : ℕ). merge_word rule x (get_or new i 0)) (sym (get_or-take (length new) (drop at l) i 0 b ∙ get_or-drop at l i 0))
-      ∙ sym (get_or_merge rule (part l at (length new)) new i (omega arith) b))
+      ∙ ap (λ (x : ℕ). f x (get_or new i 0)) (sym (get_or-take (length new) (drop at l) i 0 b ∙ get_or-drop at l i 0))
+      ∙ sym (get_or_merged f (part l at (length new)) new i (omega arith) b))

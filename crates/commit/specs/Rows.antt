@@ -1,5 +1,5 @@
 -- A table's rows among the words that are lent for all rows: a row appended, and a row merged into the one that has its key.
-use Rattle.std.specs.Prelude.{ℕ, ◌+◌, ◌*◌, ◌<◌, ◌≤◌, ◌≡◌, true, false, cond, List, ◌++◌, leb, length, drop, Option, Some, None}
+use Rattle.std.specs.Prelude.{ℕ, ◌+◌, ◌*◌, ◌<◌, ◌≤◌, ◌≡◌, Bool, true, false, ◌&&◌, not, cond, List, ◌++◌, leb, length, drop, Option, Some, None}
 use Rattle.std.proofs.lemmas.List.Edits.{sets}
 use Rattle.std.proofs.Math.Seq.{paste}
 use Rattle.model.specs.Book.Decode.{part}
@@ -39,6 +39,10 @@ grown p n = record { from = p.from; count = p.count + 1; used = p.used + n; over
 
 abbrev pub overrun : Part → Part
 overrun p = record { from = p.from; count = p.count; used = p.used; over = true }
+
+-- whether a row has room, and every one before it had
+abbrev pub has_room : List ℕ → Rows → Bool
+has_room row s = not s.part.over && leb (s.part.used + length row) (length s.words)
 
 -- once a row had no room, none is added
 unfoldable pub appended : List ℕ → Rows → Rows

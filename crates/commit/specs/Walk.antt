@@ -5,6 +5,8 @@ use Rattle.model.specs.Basics.{when, eq_list}
 use Rattle.model.specs.Book.Decode.{part}
 use Rattle.tables.specs.declared.TableInfo.{TableInfo}
 use Rattle.tables.specs.Tables.{info_of}
+use Rattle.record_log.specs.declared.Change.{Change}
+use Rattle.record_log.specs.declared.Change.TheVariants.{Insert, Remove}
 use Rattle.record_log.specs.Walk.{end_of, walked, is_removal, is_insertion}
 use Rattle.commit.specs.Rows.{Rows, onto, put_row}
 
@@ -16,6 +18,11 @@ unfoldable pub any_removal : List ℕ → List ℕ → Bool
 any_removal w log = walked (end_of w log) (length log) (removal_turn log) false
 
 -- ## Of table t
+
+-- whether the record at p is such a change of it
+abbrev pub is_change : List ℕ → ℕ → Change → ℕ → Bool
+is_change log t Remove p = is_removal log t p
+is_change log t Insert p = is_insertion log t p
 
 -- whether it removes the row with a key of k words; whether some record does
 abbrev pub removes : List ℕ → ℕ → ℕ → List ℕ → ℕ → Bool

@@ -2,7 +2,9 @@
 #![tactic(auto)]
 
 mod inserts;
+mod keys;
 mod merge;
+mod noted;
 mod records;
 mod removals;
 mod rows;
@@ -12,11 +14,11 @@ ghost use Rattle.tables.specs.Tables.{info_of, RowsStand};
 ghost use Rattle.commit.specs.Walk.{any_removal, gone_after};
 ghost use Rattle.commit.specs.Commit.{table_committed, committed_rows, as_left};
 
-use crate::records::Log;
+use crate::records::Changes;
 use crate::rows::{Part, TableRows};
 use ids::TableId;
 
-// How many rows each table has, and how many words they use in all; or a row had no room.
+// How many rows each table has, and how many words they use in all; or a row had no room (`over`). Later records are merged then all the same, so it is no `Err`.
 #[derive(Clone, Copy)]
 pub struct Committed {
     pub counts: [u32; 16],
@@ -25,17 +27,23 @@ pub struct Committed {
 }
 
 // Table t, past the rows of the tables before it: first what the removals leave of its old rows, then the log's rows.
-fn commit_table(log: Log, t: TableId, gone: &mut [u32], rows: &mut [u32], done: &mut Committed)
-    requires { (t.0 < 16) × RowsStand log.words.now (info_of log.words.now t.0)
-        × (length log.records.now ≤ length gone.old) × (length log.records.now ≤ 16384)
+fn commit_table(
+    changes: Changes,
+    t: TableId,
+    gone: &mut [u32],
+    rows: &mut [u32],
+    done: &mut Committed,
+)
+    requires { (t.0 < 16) × RowsStand changes.words.now (info_of changes.words.now t.0)
+        × (length changes.log.now ≤ length gone.old) × (length gone.old ≤ 16384)
         × (done.old.used ≤ length rows.old) × (length rows.old ≤ 16384) }
-    ensures rows { as_left rows.new done.new ≡ table_committed log.entry.words.now log.entry.records.now t.0
+    ensures rows { as_left rows.new done.new ≡ table_committed changes.entry.words.now changes.entry.log.now t.0
         (as_left rows.old done.old) }
-    ensures gone { gone.new ≡ gone_after log.entry.words.now log.entry.records.now t.0 gone.old }
+    ensures gone { gone.new ≡ gone_after changes.entry.words.now changes.entry.log.now t.0 gone.old }
 {
     let mut table = TableRows {
         words: rows,
-        info: tables::info_of(log.words, t),
+        info: tables::info_of(changes.words, t),
         part: Part {
             count: 0,
             used: done.used,
@@ -43,8 +51,8 @@ fn commit_table(log: Log, t: TableId, gone: &mut [u32], rows: &mut [u32], done: 
             over: done.over,
         },
     };
-    removals::keep(log, t, gone, &mut table);
-    inserts::insert_rows(log, t, &mut table);
+    removals::keep(changes, t, gone, &mut table);
+    inserts::insert_rows(changes, t, &mut table);
     let part = table.part;
     done.counts[usize::from(t)] = part.count as u32;
     done.used = part.used;
@@ -69,9 +77,9 @@ fn commit_all<const N: usize>(
         × ((t : ℕ) → t < tables → RowsStand words.now (info_of words.now t)) }
     ensures { as_left rows.new result ≡ committed_rows words.now tables log.now rows.old }
 {
-    let log = Log {
+    let changes = Changes {
         words,
-        records: log,
+        log,
         removes: may_remove(words, tables, log),
     };
     let mut gone = [0u32; N];
@@ -81,7 +89,7 @@ fn commit_all<const N: usize>(
         over: false,
     };
     for t in 0..tables {
-        commit_table(log, TableId(t as u32), &mut gone, rows, &mut done);
+        commit_table(changes, TableId(t as u32), &mut gone, rows, &mut done);
     }
     done
 }

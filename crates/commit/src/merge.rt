@@ -2,12 +2,12 @@
 ghost use Rattle.std.specs.Prelude.{◌≡◌, ℕ, ◌+◌, ◌≤◌, length};
 ghost use Rattle.std.proofs.lemmas.List.Edits.{sets};
 ghost use Rattle.model.specs.Book.Decode.{part};
-ghost use Rattle.model.specs.Commit.{merge_word, merge_words};
-ghost use Rattle.commit.specs.MergeRule.{merge_by};
+ghost use Rattle.model.specs.Commit.{merge_word};
+ghost use Rattle.commit.specs.MergeRule.{merge_by, merged};
 
 // What a table makes of a row's value and a new one.
 #[derive(Clone, Copy)]
-enum MergeRule {
+pub enum MergeRule {
     Old,
     New,
     Smaller,
@@ -42,13 +42,11 @@ impl MergeRule {
 }
 
 // The words from `at` on, each with the one of `new` at its place.
-pub fn merge_words(rows: &mut [u32], at: usize, new: &[u32], rule: u32)
+pub fn merge_words(rows: &mut [u32], at: usize, new: &[u32], rule: MergeRule)
     requires { at + length new.now ≤ length rows.old }
     ensures { rows.new ≡ sets rows.old at
-        (merge_words rule (part rows.old at (length new.now))
-        new.now) }
+        (merged (merge_by rule) (part rows.old at (length new.now)) new.now) }
 {
-    let rule = MergeRule::from(rule);
     for (i, word) in new.iter().enumerate() {
         rows[at + i] = rule.merge(rows[at + i], *word);
     }

@@ -11,8 +11,8 @@ pub returns-clause-rows : goal.returns-clause-rows
 unfolding table_committed
 returns-clause-rows c =
     let a = c.args in
-    let w = a.log.words.now in
-    let log = a.log.records.now in
+    let w = a.changes.words.now in
+    let log = a.changes.log.now in
     let i = info_of w a.t.0 in
     let before : Left = as_left a.rows.now a.done.now in
     let old : rows_of c.keep.new.rows ≡ kept w log a.t.0 i i.rows (begun before) = rw c.info_of.ensures at c.keep.ensures.rows.rows in

@@ -44,7 +44,7 @@ loop-row-init c =
 pub keep_row-requires : goal.keep_row-requires
 keep_row-requires c =
     let q = long (goal.at.keep_row-requires c).In-Some in
-    (c.requires.0, omega (arith, q, c.requires.1), q ∙ sym (ap (λ i. i.width) c.loop-row.invariant.3.same_info))
+    (omega (arith, q, c.requires), q ∙ sym (ap (λ i. i.width) c.loop-row.invariant.3.same_info))
 
 pub loop-row-preserved : goal.loop-row-preserved
 unfolding spared
@@ -64,7 +64,7 @@ loop-row-preserved c =
       record {
         same_words = r.same_words ∙ l.invariant.3.same_words;
         same_info = r.same_info ∙ l.invariant.3.same_info;
-        rows = iter_more (λ j. spare_row a.removed.words.now a.removed.info (part a.old.now (0 + j * k) k)) n (rows_of a.rows.now) (rows_of l.rows) _ l.invariant.3.rows (r.rows ∙ ap (λ (x : List ℕ). spare_row a.removed.words.now a.removed.info x (rows_of l.rows)) (row_here a.old.now k n _ _ q d));
+        rows = iter_more (λ j. spare_row a.removed.rows.words.now a.removed.rows.info (part a.old.now (0 + j * k) k)) n (rows_of a.rows.now) (rows_of l.rows) _ l.invariant.3.rows (r.rows ∙ ap (λ (x : List ℕ). spare_row a.removed.rows.words.now a.removed.rows.info x (rows_of l.rows)) (row_here a.old.now k n _ _ q d));
       },
     )
 

@@ -11,4 +11,4 @@ invariant-loop-row l =
     let width = l.initial.rows.info.width in
     let n = length l.yielded in
     (n * width ≤ length l.old) × (chunks_exact_size l.row-iterator ≡ width) × (chunks_exact_rest l.row-iterator ≡ drop (n * width) l.old)
-    × Leaves l.initial.rows l.rows (spared l.removed.words.now l.removed.info l.old 0 width n (rows_of l.initial.rows))
+    × Leaves l.initial.rows l.rows (spared l.removed.rows.words.now l.removed.rows.info l.old 0 width n (rows_of l.initial.rows))
