@@ -26,6 +26,7 @@ fn complain(rt: &impl Eprint, kind: ErrorKind) {
 
 fn main(rt: HostRuntime) {
     let mut name = [0u8; 4096];
+    // by their numbers, since the library's iterator of arguments allocates
     for i in 1..usize::MAX {
         match rt.arg(i, &mut name) {
             Ok(n) => match str::from_utf8(&name[..n]) {

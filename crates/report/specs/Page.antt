@@ -33,7 +33,7 @@ pub record Written (q : Page) (m : ℕ) (ls : List Line) (p : Page) (n : ℕ) : 
   pub page : Appends p q (text ls)
   pub count : m ≡ n + length ls
 
-pub written_none : (p : Page) (n : ℕ) → Written p n [] p n
+pub written_none : (p : Page) (n : ℕ) → Written p (n + 0) [] p n
 unfolding text
 written_none p n = record { page = appends_none p; count = omega arith }
 

@@ -4,35 +4,32 @@
 mod lines;
 mod text;
 
-ghost use Rattle.std.specs.Prelude.{◌≡◌, [], ◌∷◌};
+ghost use Rattle.std.specs.Prelude.{[], ◌∷◌};
 ghost use Rattle.model.specs.Printed.{refused as Line·refused};
-ghost use Rattle.report.specs.Text.{text as Text·text, up_to, appended};
+ghost use Rattle.report.specs.Text.{text as Text·text};
 ghost use Rattle.report.specs.Lines.{answer_lines};
+ghost use Rattle.report.specs.Page.{Appends};
 
 use lines::Family;
-use text::Page;
+pub use text::Page;
 
-// The lines of an answer's words, from the byte `at` on: steps, log, flag, tables, counters.
-pub fn accepted(words: &[u32], out: &mut [u8], at: usize) -> usize
-    ensures { up_to out.new result ≡ appended (Text·text (answer_lines words.now)) (up_to out.old at) }
+// Appends the lines of an answer's words: steps, log, flag, tables, counters.
+pub fn accepted(words: &[u32], page: &mut Page)
+    ensures { Appends page.old page.new (Text·text (answer_lines words.now)) }
 {
-    let mut page = Page { out, at };
-    lines::numbered(words, Family::Steps, &mut page);
-    lines::log(words, &mut page);
-    lines::numbered(words, Family::Tables, &mut page);
-    lines::numbered(words, Family::Counters, &mut page);
-    page.at
+    lines::numbered(words, Family::Steps, page);
+    lines::log(words, page);
+    lines::numbered(words, Family::Tables, page);
+    lines::numbered(words, Family::Counters, page);
 }
 
-// The line of a refusal.
-pub fn refused(number: u32, place: usize, out: &mut [u8], at: usize) -> usize
-    ensures { up_to out.new result ≡ appended (Text·text (Line·refused number place ∷ [])) (up_to out.old at) }
+// Appends the line of a refusal.
+pub fn refused(number: u32, place: usize, page: &mut Page)
+    ensures { Appends page.old page.new (Text·text (Line·refused number place ∷ [])) }
 {
-    let mut page = Page { out, at };
     page.append(b"refused");
     page.number(u64::from(number));
     page.append(b" at");
     page.number(place as u64);
     page.append(b"\n");
-    page.at
 }

@@ -1,21 +1,14 @@
 // The lines of an answer, read from its words.
-ghost use Rattle.std.specs.Prelude.{◌≡◌, [], ◌∷◌, ◌<◌, ◌≤◌, length, drop};
+ghost use Rattle.std.specs.Prelude.{◌≡◌, ◌+◌, [], ◌∷◌, ◌<◌, ◌≤◌, length, drop};
+ghost use Rattle.std.specs.Int.{from_bool};
 ghost use Rattle.record_log.specs.Walk.{end_of};
 ghost use Rattle.report.specs.Text.{text};
 ghost use Rattle.report.specs.Lines.{body_of, entry_line, family_lines, record_line, record_lines, log_lines};
 ghost use Rattle.report.specs.Page.{Appends, Written};
 
 use crate::text::Page;
+use contents::BodyKind;
 use record_log::{Change, Places};
-
-// The kinds of a body that has a line of its own.
-const TABLE: u32 = 1;
-
-const COUNTER: u32 = 2;
-
-const BATCH: u32 = 6;
-
-const PREDICTION: u32 = 7;
 
 // The entries whose lines stand together, numbered from 0.
 #[derive(Clone, Copy)]
@@ -30,9 +23,11 @@ fn body(words: &[u32], i: usize) -> &[u32]
     requires { i < 4294967296 }
     ensures { result.now ≡ body_of words.now i }
 {
-    let first = words::size_at(words, 2 + 3 * i);
-    let count = words::size_at(words, 3 + 3 * i);
-    words::part(words, first, count)
+    words::part(
+        words,
+        contents::first_of(words, i),
+        contents::length_of(words, i),
+    )
 }
 
 // The words past the first.
@@ -42,21 +37,28 @@ fn rest(words: &[u32]) -> &[u32]
     words.get(1..).unwrap_or(&[])
 }
 
-// The line of entry i, if it is one of the family's; `number` such lines stand before it. Answers how many there are then.
-fn entry(words: &[u32], family: Family, i: usize, number: usize, page: &mut Page) -> usize
+// The line of entry i, as the one with this number, if it is one of the family's, and whether it is.
+fn entry(words: &[u32], family: Family, i: usize, number: usize, page: &mut Page) -> bool
     requires { (i < 4294967296) × (number ≤ i) }
-    ensures { Written page.new result (entry_line words.now family number i) page.old number }
+    ensures { Written page.new (number + from_bool result) (entry_line words.now family number i) page.old number }
 {
     let body = body(words, i);
     let first = number as u64;
-    match (family, words::word(words, 1 + 3 * i)) {
-        (Family::Steps, BATCH) => page.line(b"run", first, &[words::word(body, 0)]),
-        (Family::Steps, PREDICTION) => page.line(b"row", first, rest(body)),
-        (Family::Tables, TABLE) => page.line(b"table", first, &[words::word(body, 3)]),
-        (Family::Counters, COUNTER) => page.line(b"counter", first, &[words::word(body, 0)]),
-        _ => return number,
+    let Ok(kind) = BodyKind::try_from(contents::kind_of(words, i)) else {
+        return false;
+    };
+    match (family, kind) {
+        (Family::Steps, BodyKind::Batch) => page.line(b"run", first, &[words::word(body, 0)]),
+        (Family::Steps, BodyKind::Prediction) => page.line(b"row", first, rest(body)),
+        (Family::Tables, BodyKind::Table) => page.line(b"table", first, &[words::word(body, 3)]),
+        (Family::Counters, BodyKind::Counter) => page.line(
+            b"counter",
+            first,
+            &[words::word(body, 0)],
+        ),
+        _ => return false,
     }
-    number + 1
+    true
 }
 
 // The lines of all entries of a family.
@@ -65,7 +67,7 @@ pub fn numbered(words: &[u32], family: Family, page: &mut Page)
 {
     let mut number = 0;
     for i in 0..words::size_at(words, 0) {
-        number = entry(words, family, i, number, page);
+        number += usize::from(entry(words, family, i, number, page));
     }
 }
 

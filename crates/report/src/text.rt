@@ -3,7 +3,7 @@ ghost use Rattle.std.specs.Prelude.{◌≡◌, ◌∷◌};
 ghost use Rattle.report.specs.Text.{field, fields, named};
 ghost use Rattle.report.specs.Page.{Appends};
 
-// A buffer, and where the next byte goes. What has no room there is left out.
+// A buffer, and where the next byte goes. What has no room there is cut off, where the answer's page of words asks for room.
 #[derive(Drop)]
 pub struct Page<'a> {
     pub out: &'a mut [u8],
@@ -11,7 +11,8 @@ pub struct Page<'a> {
 }
 
 impl Page<'_> {
-    pub fn append(&mut self, bytes: &[u8])
+    // All of `bytes`.
+    pub(crate) fn append(&mut self, bytes: &[u8])
         ensures { Appends self.old self.new bytes.now }
     {
         let from = self.at.min(self.out.len());
@@ -20,8 +21,8 @@ impl Page<'_> {
         self.at += n;
     }
 
-    // A blank and a number.
-    pub fn number(&mut self, n: u64)
+    // A blank and a number. The library's `write!` promises its text only where nothing fails; this does always.
+    pub(crate) fn number(&mut self, n: u64)
         ensures { Appends self.old self.new (field n) }
     {
         let mut digits = [0u8; 20];
@@ -39,7 +40,7 @@ impl Page<'_> {
     }
 
     // A line: its name, a number, further numbers.
-    pub fn line(&mut self, name: &[u8], first: u64, rest: &[u32])
+    pub(crate) fn line(&mut self, name: &[u8], first: u64, rest: &[u32])
         ensures { Appends self.old self.new (named name.now (first ∷ rest.now)) }
     {
         self.append(name);

@@ -1,7 +1,7 @@
 // Runs the sample of the differential runs, read on standard input, and prints how many of its books came out as the sample says. harness/README.md has the format.
 #![tactic(auto)]
 
-ghost use Rattle.std.specs.Prelude.{◌≤◌, length};
+ghost use Rattle.std.specs.Prelude.{◌≤◌};
 
 use refusal::Refusal;
 use std::io;
@@ -117,24 +117,9 @@ fn print(rt: &impl Print, sample: &[u8]) -> io::Result<()> {
     println!(rt; "{right} of {n} books as in the sample")
 }
 
-// Reads until the buffer is full, the input ends or a read fails, and answers how many bytes were put there.
-fn read_full<R: Read>(input: &mut R, buffer: &mut [u8]) -> usize
-    ensures { result ≤ length buffer.old }
-{
-    let mut at = 0;
-    while at < buffer.len() {
-        let n = input.read(&mut buffer[at..]).unwrap_or(0);
-        if n == 0 {
-            break;
-        }
-        at += n;
-    }
-    at
-}
-
-// Reads the sample into the buffer, and prints how many of its books come out as it says.
+// Reads the sample into the buffer, and prints how many of its books come out as it says. A read that fails ends the sample.
 fn run<R: Read>(rt: &impl Print, input: &mut R, buffer: &mut [u8]) -> io::Result<()> {
-    let got = read_full(input, buffer);
+    let (got, _) = session::input::fill(input, buffer);
     if got < 524288 {
         print(rt, &buffer[..got])
     } else {

@@ -2,18 +2,32 @@
 use Rattle.std.specs.Prelude.{ℕ, ◌+◌, ◌<◌, ◌≤◌, ◌≡◌, List, [], ◌∷◌, ◌++◌, length, take, Option, None, Some, Result, Ok, Err, IfSome, IfOk, OnOk, MatchResult, true, is_ok}
 use Rattle.std.proofs.Common.{sym, ap, subst, ◌∙◌, arith, lt-ltb, length-take, length-take-le, take_all}
 use Rattle.std.proofs.lemmas.Bool.{lt-leb}
+use Rattle.std.proofs.lemmas.List.{append-nil}
 use Rattle.std.proofs.Math.Decide.{dec_lt}
-use Rattle.std.proofs.Math.Seq.{take-append-add, take-append-le}
+use Rattle.std.proofs.Math.Seq.{take-append-add, take-append-le, take-append_seam}
 use Rattle.model.specs.Outcome.{refusal, book_refusal}
 use Rattle.model.specs.Printed.{printed, refused}
 use Rattle.model.specs.Claims.Cases.{dispatch_lends}
-use Rattle.std.specs.Io.KnownBytes.{Appends}
+use Rattle.std.specs.Io.KnownBytes.{Appends, Consumes, IsAtEnd}
 
 -- the bytes up to `at` and those that were read behind them
 pub front_more : (at n : ℕ) (old part rest : List ℕ) → at ≤ length old → n ≤ length part → take (at + n) (take at old ++ (part ++ rest)) ≡ take at old ++ take n part
 front_more at n old part rest h k =
     let size = length-take-le at old h in
     ap (λ (m : ℕ). take (m + n) (take at old ++ (part ++ rest))) (sym size) ∙ take-append-add (take at old) (part ++ rest) n ∙ ap (λ (l : List ℕ). take at old ++ l) (take-append-le n part rest k)
+
+-- the bytes that stand in the buffer are the first that were to come, as many as have room
+pub as_held : (known rest : Option (List ℕ)) (buffer : List ℕ) (n : ℕ) → n ≤ length buffer → Consumes known rest (take n buffer) → (n < length buffer → IsAtEnd rest) → IfSome known (λ bytes. take n buffer ≡ take (length buffer) bytes)
+as_held None rest buffer n h c end = tt
+as_held (Some xs) None buffer n h c end = absurd c
+as_held (Some xs) (Some ys) buffer n h c end = elim (dec_lt n (length buffer)) [
+  | yes l ↦
+      let all : xs ≡ take n buffer = c ∙ ap (λ (l : List ℕ). take n buffer ++ l) (end l) ∙ append-nil (take n buffer) in
+      sym (ap (take (length buffer)) all ∙ take_all (length buffer) (take n buffer) (omega (arith, length-take-le n buffer h)))
+  | no m ↦
+      let size : length buffer ≡ length (take n buffer) = omega (arith, length-take-le n buffer h) in
+      sym (ap (take (length buffer)) c ∙ ap (λ (k : ℕ). take k (take n buffer ++ ys)) size ∙ take-append_seam (take n buffer) ys)
+]
 
 -- what holds of a value, where `map_err` gave it as it was
 pub at_ok : {T E : Type 0} (D : Type 0) (P : T → Type 0) (Q : E → Type 0) (r : Result T E) (n : T) → MatchResult r (λ x. ◌≡◌ {A = Result T D} (Ok n) (Ok x)) Q → true ≡ is_ok r → IfOk r P → P n

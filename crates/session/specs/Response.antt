@@ -30,6 +30,10 @@ narrow : (n : ℕ) (o : Result ℕ Refusal) (w : List ℕ) → ((i : ℕ) → ge
 narrow n (Ok k) w words h = (All-left Small (take k w) (drop k w) (subst (All Small) (sym (take-append-drop k w)) (all_read Small w (λ i. omega (arith, words i)))), omega (arith, length-take k w, h.0))
 narrow n (Err r) w words h = tt
 
+-- what the buffer lent holds at the end is what the page holds
+pub held : (page : List ℕ) {a b : List ℕ} → a ≡ page → page ≡ b → a ≡ b
+held page e h = e ∙ h
+
 -- a text that has room in the buffer is all that was appended
 whole : (bs out now : List ℕ) (r : ℕ) → length bs ≤ length out → up_to now r ≡ appended bs (up_to out 0) → (now ≡ bs ++ drop (length bs) out) × (r ≡ length bs)
 whole bs out now r h e =

@@ -1,28 +1,29 @@
 // A book read from an input, run with the memory that `dispatch` lends, and its lines written to an output.
 #![tactic(auto)]
 
-mod input;
+pub mod input;
 
 ghost use Rattle.std.specs.Prelude.{◌≡◌, ◌++◌, ℕ, ◌<◌, ◌≤◌, length, get_or, drop, OnOk, IfSome};
 ghost use Rattle.std.specs.Io.KnownBytes.{Appends};
 ghost use Rattle.model.specs.Printed.{printed};
 ghost use Rattle.model.specs.Claims.Cases.{dispatch_lends};
 ghost use Rattle.engine.specs.Engine.{outcome_of};
-ghost use Rattle.report.specs.Text.{text, up_to, appended};
+ghost use Rattle.report.specs.Text.{text};
+ghost use Rattle.report.specs.Page.{Appends as Page·Appends};
 ghost use Rattle.report.specs.Prints.{outcome_lines};
 
 use refusal::Refusal;
+use report::Page;
 use std::io::{Error, Read, Write};
 
-// The lines of what the engine returned and left in the answer, at the front of `out`. The second clause hands on what the answer's type says of its words.
-fn lines(outcome: Result<usize, Refusal>, answer: &[u32], out: &mut [u8]) -> usize
-    ensures text { up_to out.new result ≡ appended (text (outcome_lines (outcome_of outcome answer.now)))
-        (up_to out.old 0) }
+// Appends the lines of what the engine returned and left in the answer. The second clause hands on what the answer's type says of its words.
+fn lines(outcome: Result<usize, Refusal>, answer: &[u32], page: &mut Page)
+    ensures text { Page·Appends page.old page.new (text (outcome_lines (outcome_of outcome answer.now))) }
     ensures words { (i : ℕ) → get_or answer.now i 0 < 4294967296 }
 {
     match outcome {
-        Ok(n) => report::accepted(answer.get(..n).unwrap_or(answer), out, 0),
-        Err(refusal) => report::refused(refusal.number(), refusal.place(), out, 0),
+        Ok(n) => report::accepted(answer.get(..n).unwrap_or(answer), page),
+        Err(refusal) => report::refused(refusal.number(), refusal.place(), page),
     }
 }
 
@@ -46,7 +47,9 @@ pub fn respond(book: &[u8], out: &mut [u8]) -> usize
         &mut tables,
         &mut answer,
     );
-    lines(outcome, &answer, out)
+    let mut page = Page { out, at: 0 };
+    lines(outcome, &answer, &mut page);
+    page.at
 }
 
 // What `dispatch` prints for a book: its lines and nothing else.

@@ -1,4 +1,4 @@
-// What C and Rust link: every function of include/dispatch.h, each a thin one over an entry point.
+// What C and Rust link: `dispatch_run` of include/dispatch.h, a thin function over the engine's entry point.
 #![tactic(auto)]
 
 ghost use Rattle.std.specs.Prelude.{◌≡◌, min, length, replicate};

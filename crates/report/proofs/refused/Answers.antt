@@ -1,4 +1,4 @@
-use Rattle.std.proofs.Common.{rules, sym}
+use Rattle.std.proofs.Common.{sym}
 use Rattle.model.specs.Printed.{refused}
 use Rattle.report.specs.Text.{line_bytes}
 use Rattle.report.specs.TextLaws.{text_one}
@@ -9,5 +9,4 @@ pub returns : goal.returns
 unfolding line_bytes
 returns c =
     let all = rw c.from.ensures at (appends_more (appends_more (appends_more (appends_more c.append.ensures c.number.ensures) c.append-2.ensures) c.number-2.ensures) c.append-3.ensures) in
-    let line = appends_is (sym (text_one (refused c.args.number c.args.place))) all in
-    search (rules, line.bytes)
+    appends_is (sym (text_one (refused c.args.number c.args.place))) all
