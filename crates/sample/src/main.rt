@@ -61,7 +61,7 @@ fn agrees(entry: &[u8], outcome: Result<usize, Refusal>, answer: &[u32]) -> bool
     }
 }
 
-// Runs the entry's book with the words lent. The engine's contract says that it leaves all of them zero but the answer's; the compiled engine is seen to.
+// Runs the entry's book with the words lent. The engine's contract says that it leaves all of them zero but the answer's; here the words that the compiled engine leaves are looked at.
 fn run_book(
     entry: &[u8],
     bindings: &mut [u32],
@@ -99,7 +99,7 @@ fn replay(entry: &[u8]) -> bool {
 fn count(sample: &[u8], n: usize) -> usize {
     let mut right = 0;
     let mut rest = sample.get(4..).unwrap_or(&[]);
-    for _i in 0..n {
+    for _ in 0..n {
         let Some((entry, others)) = rest.split_at_checked(4 * size(rest)) else {
             break;
         };
