@@ -18,19 +18,6 @@ merge_rest (suc (suc zero)) old new a b c = absurd (b refl)
 merge_rest (suc (suc (suc zero))) old new a b c = absurd (c refl)
 merge_rest (suc (suc (suc (suc m)))) old new a b c = refl
 
--- ## Words by their index
-
-pub length_merge : (m : ℕ) (old new : List ℕ) → length (merge_words m old new) ≡ length old
-length_merge m [] new = refl
-length_merge m (a ∷ old) [] = refl
-length_merge m (a ∷ old) (b ∷ new) = ap suc (length_merge m old new)
-
-pub get_or_merge : (m : ℕ) (old new : List ℕ) (i : ℕ) → i < length old → i < length new → get_or (merge_words m old new) i 0 ≡ merge_word m (get_or old i 0) (get_or new i 0)
-get_or_merge m [] new i h l = absurd (omega arith)
-get_or_merge m (a ∷ old) [] i h l = absurd (omega arith)
-get_or_merge m (a ∷ old) (b ∷ new) zero h l = refl
-get_or_merge m (a ∷ old) (b ∷ new) (suc i) h l = get_or_merge m old new i (omega arith) (omega arith)
-
 -- ## Merged by any rule
 
 module _ (f : ℕ → ℕ → ℕ) where
@@ -50,6 +37,14 @@ module _ (f : ℕ → ℕ → ℕ) where
   get_or_merged (a ∷ old) [] i h l = absurd (omega arith)
   get_or_merged (a ∷ old) (b ∷ new) zero h l = refl
   get_or_merged (a ∷ old) (b ∷ new) (suc i) h l = get_or_merged old new i (omega arith) (omega arith)
+
+-- ## And so by one of the model's
+
+pub length_merge : (m : ℕ) (old new : List ℕ) → length (merge_words m old new) ≡ length old
+length_merge m old new = ap length (sym (merged_as (merge_word m) m (λ a b. refl) old new)) ∙ length_merged (merge_word m) old new
+
+pub get_or_merge : (m : ℕ) (old new : List ℕ) (i : ℕ) → i < length old → i < length new → get_or (merge_words m old new) i 0 ≡ merge_word m (get_or old i 0) (get_or new i 0)
+get_or_merge m old new i h l = ap (λ (x : List ℕ). get_or x i 0) (sym (merged_as (merge_word m) m (λ a b. refl) old new)) ∙ get_or_merged (merge_word m) old new i h l
 
 -- a word that is none of those stored is as it was
 pub sets_other : (vs l : List ℕ) (at p : ℕ) → ((i : ℕ) → i < length vs → p ≢ at + i) → get_or (sets l at vs) p 0 ≡ get_or l p 0

@@ -1,4 +1,4 @@
-// The book's words and the word that a walk stands at. The last function has plain parameters, so its callers hold a slice and a place, and no `Reader`.
+// The book's words and the word that a walk stands at. `take` has plain parameters, so that its callers hold a slice and a place, and no `Reader`.
 #![tactic(auto)]
 
 ghost use Rattle.std.specs.Prelude.{◌≡◌, ◌+◌, ◌^◌, ◌<◌, get_or};

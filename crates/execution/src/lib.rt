@@ -41,7 +41,7 @@ pub struct Left<'a> {
     pub stop: Option<Stop>,
 }
 
-// Which record it stages: an insert or a removal of what a list of entries stands for.
+// Which record an instruction stages: an insert or a removal of what a list of entries stands for.
 #[derive(Clone, Copy)]
 pub struct Staging {
     pub change: Change,

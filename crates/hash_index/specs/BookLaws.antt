@@ -42,7 +42,7 @@ rows_alone w t n = iter_agree (λ i. added (0 + i) (home_in w t i)) (λ i. added
 -- a table that has the index alone
 pub among_alone : (w : List ℕ) (t : TableInfo) (index : Option (List ℕ)) → IndexOf w t index → IndexAmong w t 0 index
 among_alone w t None q = tt
-among_alone w t (Some x) q = (record { home = home_in w t; rows = t.rows; few = q.0; small = row_home_below w t; within = omega arith; agree = λ j lt. ap (home_in w t) (zero-add j); is = q.1 })
+among_alone w t (Some x) q = record { home = home_in w t; rows = t.rows; few = q.0; small = row_home_below w t; within = omega arith; agree = λ j lt. ap (home_in w t) (zero-add j); is = q.1 }
 
 -- ## All tables
 
@@ -98,4 +98,4 @@ module _ (w : List ℕ) where
 
   pub book_has : (n : ℕ) (index : Option (List ℕ)) → BookIndex w n index → (t : ℕ) → t < n → IndexAmong w (info_of w t) (rows_before w t) index
   book_has n None q t lt = tt
-  book_has n (Some x) q t lt = (record { home = home_among n; rows = rows_before w n; few = q.0; small = among_below n; within = before_within n t lt; agree = λ j l. among_table n t j lt l; is = q.1 ∙ book_is n })
+  book_has n (Some x) q t lt = record { home = home_among n; rows = rows_before w n; few = q.0; small = among_below n; within = before_within n t lt; agree = λ j l. among_table n t j lt l; is = q.1 ∙ book_is n }

@@ -24,7 +24,7 @@ pub fn first_marks<const N: usize>(n: usize) -> [bool; N]
 }
 
 impl Mask {
-    // The first `lanes` lanes; with 0, a mask to collect lanes in.
+    // The first `lanes` lanes.
     #[tactic(auto, unfolding(crate::specs::Masks::first_lanes))]
     pub fn new(lanes: usize) -> Self
         ensures { result.live ≡ first_lanes lanes }

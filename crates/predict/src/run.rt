@@ -1,4 +1,4 @@
-// What a run changes.
+// A run: its state, and the index of its predicted rows.
 ghost use Rattle.std.specs.Prelude.{◌≡◌, ◌≤◌};
 ghost use Rattle.predicted_index.specs.Home.{home_of};
 ghost use Rattle.predicted_index.specs.Index.{slot_of, Small};
@@ -8,7 +8,7 @@ use args::Args;
 use execution::ExecutionState;
 use predicted_index::{Slot, Sought};
 
-// A run: what it keeps, and the words lent for the index of the predicted rows.
+// What a run keeps, and the words lent for the index of its predicted rows.
 #[derive(Drop)]
 pub struct Execution<'a> {
     pub state: ExecutionState<'a>,

@@ -1,11 +1,11 @@
 -- The chain's sum is `rows_before` (`sum_range`), and small, since a table has fewer than 2 ^ 32 rows (`sum_small`).
-use Rattle.std.proofs.Common.{◌≡◌, ◌+◌, ◌*◌, ◌^◌, ◌<◌, ◌≤◌, ℕ, List, zero, suc, map, ap, subst, ◌∙◌, add-one, arith, rules, refl}
+use Rattle.std.proofs.Common.{◌≡◌, ◌+◌, ◌*◌, ◌^◌, ◌<◌, ◌≤◌, ℕ, List, zero, suc, map, ap, ◌∙◌, arith, rules, refl}
 use Rattle.std.specs.List as list
 use Rattle.std.specs.List.{range_with_len}
-use Rattle.std.proofs.lemmas.List.FromFn.{sum_by-map-range_with_len_more}
 use Rattle.std.proofs.lemmas.Iterator.{YieldsList-from_map, YieldsList-from_range}
 use Rattle.std.proofs.lemmas.Iterator.Consumers.{sum_from_yields_List, fits_from_yields_list}
 use Rattle.model.specs.Book.Contents.{first_of}
+use Rattle.words.specs.Ranges.{sum_more}
 use Rattle.tables.specs.Tables.{info_of}
 use Rattle.hash_index.specs.Book.{rows_before}
 use Rattle.hash_index.proofs.all_tables.rows_before.Goals as goal
@@ -17,9 +17,7 @@ module _ (w : List ℕ) where
   sum_range : (n : ℕ) → list.sum (map rows_in (range_with_len 0 n)) ≡ rows_before w n
   unfolding rows_before
   sum_range zero = refl
-  sum_range (suc n) =
-      let more : list.sum (map rows_in (range_with_len 0 (suc n))) ≡ list.sum (map rows_in (range_with_len 0 n)) + rows_in n = subst (λ (k : ℕ). list.sum (map rows_in (range_with_len 0 k)) ≡ list.sum (map rows_in (range_with_len 0 n)) + rows_in n) (add-one n) (sum_by-map-range_with_len_more (λ x. x) rows_in 0 n n (omega arith)) in
-      more ∙ ap (λ (s : ℕ). s + rows_in n) (sum_range n)
+  sum_range (suc n) = sum_more rows_in n ∙ ap (λ (s : ℕ). s + rows_in n) (sum_range n)
 
   sum_small : ((t : ℕ) → rows_in t ≤ 4294967295) → (n : ℕ) → rows_before w n ≤ n * 4294967295
   unfolding rows_before

@@ -1,10 +1,10 @@
 -- The chain's sum is `sum` of the lengths of the first n entries (`sum_range`), which is small (`small_sum`).
-use Rattle.std.proofs.Common.{◌≡◌, ◌+◌, ◌^◌, ◌<◌, ℕ, zero, suc, map, sym, ap, subst, ◌∙◌, add-one, arith, rules}
+use Rattle.std.proofs.Common.{◌≡◌, ◌+◌, ◌^◌, ◌<◌, ℕ, zero, suc, map, sym, ap, ◌∙◌, arith, rules}
 use Rattle.std.specs.List as list
 use Rattle.std.specs.List.{range_with_len}
-use Rattle.std.proofs.lemmas.List.FromFn.{sum_by-map-range_with_len_more}
 use Rattle.std.proofs.lemmas.Iterator.{YieldsList-from_map, YieldsList-from_range}
 use Rattle.std.proofs.lemmas.Iterator.Consumers.{sum_from_yields_List, fits_from_yields_list}
+use Rattle.words.specs.Ranges.{sum_more}
 use Rattle.answer.specs.LayoutLaws.{small_sum}
 use Rattle.answer.specs.Layout.{entry_at}
 use Rattle.answer.specs.Sums.{sum, sum_none, sum_suc}
@@ -12,9 +12,7 @@ use Rattle.answer.proofs.entries.Sizes.length_of.Goals as goal
 
 sum_range : (f : ℕ → ℕ) (n : ℕ) → list.sum (map f (range_with_len 0 n)) ≡ sum f n
 sum_range f zero = sym (sum_none f)
-sum_range f (suc n) =
-    let more : list.sum (map f (range_with_len 0 (suc n))) ≡ list.sum (map f (range_with_len 0 n)) + f n = subst (λ (k : ℕ). list.sum (map f (range_with_len 0 k)) ≡ list.sum (map f (range_with_len 0 n)) + f n) (add-one n) (sum_by-map-range_with_len_more (λ x. x) f 0 n n (omega arith)) in
-    more ∙ ap (λ (s : ℕ). s + f n) (sum_range f n) ∙ sym (sum_suc f n)
+sum_range f (suc n) = sum_more f n ∙ ap (λ (s : ℕ). s + f n) (sum_range f n) ∙ sym (sum_suc f n)
 
 pub sum-requires-clause-fits : goal.sum-requires-clause-fits
 sum-requires-clause-fits c =
