@@ -32,6 +32,6 @@ pub fn words_at(words: &[u32], at: usize, n: usize) -> Args
 {
     let mut vals = [0; 16];
     let there = words::part(words, at, n);
-    vals[..there.len()].copy_from_slice(there);
+    words::copy(there, &mut vals, 0);
     Args { vals, count: n }
 }

@@ -78,7 +78,7 @@ fn bind(bindings: &mut [u32], dst: Variable, column: &[u32], lanes: usize)
     let at = 256 * usize::from(dst);
     let front = words::part(column, 0, lanes.min(256));
     let end = at + front.len();
-    bindings[at..end].copy_from_slice(front);
+    words::copy(front, bindings, at);
     bindings[end..at + 256].fill(0);
 }
 

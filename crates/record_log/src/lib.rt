@@ -35,7 +35,7 @@ impl Log<'_> {
         }
         words[used] = kind;
         words[used + 1] = table.0;
-        words[used + 2..end].copy_from_slice(row);
+        words::copy(row, words, used + 2);
         self.used = end;
         true
     }

@@ -68,12 +68,15 @@ pub fn part<'a>(words: &'a [u32], at: usize, n: usize) -> &'a [u32]
     &rest[..n.min(rest.len())]
 }
 
-// All of `src`, into `dst` from the word `at` on.
+// All of `src`, into `dst` from the word `at` on. A loop, which compiles to memcpy: the library's `copy_from_slice` is memmove, which whoever links the archive would have to have.
+#[tactic(auto, using(std::proofs::lemmas::List::Edits::paste_none, std::proofs::lemmas::List::Edits::paste_more))]
 pub fn copy(src: &[u32], dst: &mut [u32], at: usize)
     requires { at + length src.now ≤ length dst.old }
     ensures { dst.new ≡ paste dst.old at src.now (length src.now) }
 {
-    dst[at..at + src.len()].copy_from_slice(src);
+    for i in 0..src.len() {
+        dst[at + i] = src[i];
+    }
 }
 
 // Whether every word is 0.

@@ -1,7 +1,6 @@
 -- The copied words are the first 256 of the column, the cleared ones the rest of its place; the two together are `bound` (`bound_front`).
-use Rattle.std.proofs.Common.{◌≡◌, ℕ, ◌*◌, List, take, length, min, sym, refl, ap, ◌∙◌, arith, take_all, take-take, length-take}
+use Rattle.std.proofs.Common.{◌≡◌, ℕ, ◌*◌, List, take, min, sym, ap, ◌∙◌, arith, take_all, take-take, length-take}
 use Rattle.std.proofs.Math.Decide.{dec_lt}
-use Rattle.std.proofs.lemmas.Slice.{put_mid-paste}
 use Rattle.bindings.specs.ColumnLaws.{bound_front}
 use Rattle.bindings.proofs.bind.Goals as goal
 
@@ -18,5 +17,4 @@ returns c =
     let front = c.part-front in
     let words = front.result.now in
     let is : words ≡ take 256 (take a.lanes a.column.now) = front.ensures ∙ rw c.min.ensures (take_least a.lanes 256 a.column.now) in
-    let copied = put_mid-paste _ _ a.bindings.now _ words (length words) c.copy_from_slice.ensures.after (omega arith) refl in
-    bound_front _ _ _ _ words _ _ (ap (λ (v : ℕ). 256 * v) c.from-at.ensures) is copied (c.fill.ensures.after (λ y e. e)) c.requires
+    bound_front _ _ _ _ words _ _ (ap (λ (v : ℕ). 256 * v) c.from-at.ensures) is c.copy.ensures (c.fill.ensures.after (λ y e. e)) c.requires
