@@ -32,13 +32,17 @@ impl Sought {
 }
 
 // The predicted row with the key, or no words: who reads a row does so when it is there.
-#[tactic(auto, using(crate::specs::IndexLaws::slot_of_taken))]
+#[tactic(auto, using(crate::specs::IndexLaws::slot_of_taken, crate::specs::RowLaws::none_sought))]
 fn in_log<'a>(log: &'a [u32], index: &[u32], of: Sought, key: &[u32]) -> &'a [u32]
     requires { (of.info.keys ≤ 16) × (of.info.keys ≤ length key.now) }
     ensures { result.now ≡ predicted_part log.now of.info.width
         (slot_of home_of index.now log.now of.table.0 key.now
         of.info.keys) }
 {
+    // No home is worked out for an index that has no rows.
+    if index.is_empty() {
+        return &log[..0];
+    }
     match crate::get(index, log, of.table, &key[..of.info.keys]) {
         Slot::Hit(p) => words::part(log, p + 2, of.info.width),
         Slot::Free(_) | Slot::Full => &log[..0],
@@ -62,7 +66,7 @@ pub fn committed(words: &[u32], chains: Option<&[u32]>, of: Sought, key: &[u32])
     table.look_up(key)
 }
 
-// The committed row with the key, else the predicted one, else no words.
+// The committed row with the key, else the predicted one, else no words. An empty index of the predicted rows finds none.
 #[tactic(auto, unfolding(crate::specs::Row::row_of))]
 pub fn row_of<'a>(
     words: &'a [u32],
