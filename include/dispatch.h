@@ -9,9 +9,8 @@
  *
  * The archive is for x86-64 Linux: System V calling convention, position independent, and no more
  * asked of the processor than every x86-64 has (without --cpu, a level of x86-64-v2). It needs
- * memcpy, memmove and memset from what it is linked with, and nothing else. It allocates nothing and
- * keeps nothing between calls, so that threads may call it at the same time, each with memory of its
- * own.
+ * memcpy and memset from what it is linked with, and nothing else. It allocates nothing and keeps
+ * nothing between calls, so that threads may call it at the same time, each with memory of its own.
  */
 #ifndef DISPATCH_H
 #define DISPATCH_H

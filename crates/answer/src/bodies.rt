@@ -1,5 +1,6 @@
 // The bodies of tables and of the log.
-ghost use Rattle.std.specs.Prelude.{◌∷◌, ◌+◌, ◌<◌, ◌≤◌, length};
+ghost use Rattle.std.specs.Prelude.{◌≡◌, ◌∷◌, ◌+◌, ◌<◌, ◌≤◌, length, take};
+ghost use Rattle.std.proofs.lemmas.List.Edits.{sets};
 ghost use Rattle.model.specs.Answer as model;
 ghost use Rattle.step_bodies.specs.Page.{Appends, Room};
 ghost use Rattle.answer.specs.Sums.{sum};
@@ -8,6 +9,17 @@ ghost use Rattle.answer.specs.Layout.{rows_length, table_words, tables_words};
 use crate::entries::Sizes;
 use ids::TableId;
 use step_bodies::Page;
+
+// The first n words go d words to the right, the last one first. A loop: the library's `copy_within` is memmove, which whoever links the archive would have to have.
+pub fn shift(answer: &mut [u32], n: usize, d: usize)
+    requires { d + n ≤ length answer.old }
+    ensures { answer.new ≡ sets answer.old d (take n answer.old) }
+{
+    for i in 0..n {
+        let j = n - 1 - i;
+        answer[d + j] = answer[j];
+    }
+}
 
 impl Sizes<'_> {
     // A table, whose rows stand at the word `from` of `rows`.

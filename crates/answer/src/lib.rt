@@ -38,7 +38,7 @@ fn fill(sizes: Sizes, rows: &[u32], next: &[u32], log: &[u32], changed: bool, pa
     let first = 1 + 3 * n;
     let before = sizes.length_of(tables + counters);
     let steps = page.at;
-    page.words.copy_within(..steps, first + before);
+    bodies::shift(page.words, steps, first + before);
     page.at = 0;
     page.push(n as u32);
     sizes.write_entries(n, first, page);

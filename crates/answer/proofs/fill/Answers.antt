@@ -1,7 +1,6 @@
 -- `whole_parts` and `front_parts` say where each part stands, so each write has room; all writes, one after the other, leave the answer and zeros (`fill_is`).
-use Rattle.std.proofs.Common.{◌≡◌, ◌∙◌, ◌-◌, ◌+◌, ◌*◌, ◌≤◌, ℕ, List, length, take, refl, sym, arith, length-take-le}
-use Rattle.std.specs.List.{copy_within}
-use Rattle.std.proofs.lemmas.List.Edits.{sets, sets-eq}
+use Rattle.std.proofs.Common.{◌≡◌, ◌∙◌, ◌+◌, ◌*◌, ◌≤◌, ℕ, length, take, refl, sym, arith, length-take-le}
+use Rattle.std.proofs.lemmas.List.Edits.{sets}
 use Rattle.answer.specs.AssembledLaws.{whole_parts, front_parts, front_length, fill_is}
 use Rattle.answer.specs.Layout.{Results, rows_length, results_of, body_count, bodies_length, tables_words}
 use Rattle.answer.specs.LayoutLaws.{contents_is, length_entries_words}
@@ -34,7 +33,7 @@ front c =
 
 -- where the next word goes, and that no call changes how many words are lent
 pushed : (c : After-push) → (c.push.new.self.at ≡ 1) × (length c.push.new.self.words.now ≡ length c.args.page.now.words.now)
-pushed c = (c.push.ensures.at, appends_size c.push.ensures ∙ c.copy_within.ensures.len)
+pushed c = (c.push.ensures.at, appends_size c.push.ensures ∙ c.shift.auto.answer)
 
 entered : (c : After-write_entries) → (c.push.new.self.at ≡ 1) × (length c.push.new.self.words.now ≡ length c.args.page.now.words.now) → (c.write_entries.new.page.at ≡ 1 + 3 * body_count c.args.sizes.contents) × (length c.write_entries.new.page.words.now ≡ length c.args.page.now.words.now)
 entered c h =
@@ -48,11 +47,11 @@ overflow_add-first-2 c =
     let good = c.well_formed in
     omega (arith, whole (goal.at.overflow_add-first-2 c).After-length_of-before, good)
 
-pub copy_within-requires : goal.copy_within-requires
-copy_within-requires c = omega (arith, whole (goal.at.copy_within-requires c).After-length_of-before)
+pub shift-requires : goal.shift-requires
+shift-requires c = omega (arith, whole (goal.at.shift-requires c).After-length_of-before)
 
 pub push-requires : goal.push-requires
-push-requires c = omega (arith, c.copy_within.ensures.len, whole (goal.at.push-requires c).After-length_of-before)
+push-requires c = omega (arith, c.shift.auto.answer, whole (goal.at.push-requires c).After-length_of-before)
 
 pub write_entries-requires : goal.write_entries-requires
 write_entries-requires c =
@@ -92,12 +91,6 @@ write_log-requires c =
     let at = goal.at.write_log-requires c in
     omega (arith, n.ensures, h, c.write.ensures.at, appends_size c.write.ensures, c.write_tables.ensures.at, appends_size c.write_tables.ensures, entered at.After-write_entries (pushed at.After-push), front at.After-length_of-before, whole at.After-length_of-before)
 
--- the words that are copied, as they are set
-copied_is : (l : List ℕ) (n d : ℕ) → d + n ≤ length l → copy_within l 0 n d ≡ sets l d (take n l)
-copied_is l n d h =
-    let z : n - 0 ≡ n = omega arith in
-    rw z (sym (sets-eq (take n l) l d (omega (arith, length-take-le n l (omega arith))) ∙ rw (length-take-le n l (omega arith))))
-
 pub returns : goal.returns
 returns c =
     let a = c.args in
@@ -110,13 +103,12 @@ returns c =
     let at = goal.at.returns c in
     let r : Results = results at.After-length_of-before in
     let S : ℕ = 1 + 3 * body_count z + bodies_length s.words.now s.counts.now s.lengths.now (length a.log.now) z (z.tables + z.counters) in
-    let room : S + k ≤ length b = omega (arith, before_is at.After-length_of-before, whole at.After-length_of-before) in
     let all = rw (c.bodies-n.ensures, p.0, c.counter_count-counters.ensures) at (appends_more (appends_more (appends_more c.push.ensures c.write_entries.ensures) c.write_tables.ensures) c.write.ensures) in
-    let moved : c.copy_within.new.self ≡ sets b S (take k b) = c.copy_within.ensures.after ∙ rw (before_is at.After-length_of-before, c.bodies-n.ensures) (copied_is b k S room) in
+    let moved : c.shift.new.answer ≡ sets b S (take k b) = c.shift.ensures ∙ rw (before_is at.After-length_of-before, c.bodies-n.ensures) in
     let there : c.write.new.self.at ≡ S = omega (arith, all.at, front_length r k b p.2 z e refl p.1 p.3) in
     let is = fill_is r k b p.2 z e refl p.1 p.3 in
     let last = appends_same c.write_log.ensures in
     record {
-      same = record { words = last.words ∙ all.same_words; size = last.size ∙ appends_size all ∙ c.copy_within.ensures.len };
+      same = record { words = last.words ∙ all.same_words; size = last.size ∙ appends_size all ∙ c.shift.auto.answer };
       words = c.write_log.ensures.words ∙ rw (there, all.words, moved) is;
     }
