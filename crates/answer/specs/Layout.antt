@@ -134,6 +134,11 @@ assembled r b = cond (leb (whole_length r) (length b)) (answered r (length b)) b
 unfoldable pub assembled_length : Results → ℕ → Result ℕ Refusal
 assembled_length r n = cond (leb (whole_length r) n) (Ok (whole_length r)) (Err AnswerFull)
 
+-- the place of the next word: past the answer, or as it was where there is none
+abbrev pub place_after : Result ℕ Refusal → ℕ → ℕ
+place_after (Ok n) at = n
+place_after (Err e) at = at
+
 -- what the code is given
 abbrev pub results_of : (w counts rows next lengths steps : List ℕ) → Bool → List ℕ → Results
 results_of w counts rows next lengths steps changed log = record { book = w; counts = counts; rows = rows; next = next; lengths = lengths; steps = steps; changed = changed; log = log }

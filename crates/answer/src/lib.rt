@@ -8,7 +8,7 @@ ghost use Rattle.std.specs.Prelude.{◌≡◌, ◌≤◌, length, take};
 ghost use Rattle.model.specs.Laws.Book.{Readable};
 ghost use Rattle.execution.specs.Execution.{left_state};
 ghost use Rattle.step_bodies.specs.Page.{SamePage};
-ghost use Rattle.answer.specs.Layout.{whole_length, answered, assembled, assembled_length, results_of, left_by, Enough};
+ghost use Rattle.answer.specs.Layout.{whole_length, answered, assembled, assembled_length, place_after, results_of, left_by, Enough};
 
 use crate::entries::Sizes;
 use commit::Committed;
@@ -31,6 +31,9 @@ fn fill(sizes: Sizes, rows: &[u32], next: &[u32], log: &[u32], changed: bool, pa
     ensures words { page.new.words.now ≡ answered
         (results_of sizes.entry.words.now sizes.entry.counts.now rows.now next.now sizes.entry.lengths.now
         (take page.old.at page.old.words.now) changed log.now) (length page.old.words.now) }
+    ensures place { page.new.at ≡ whole_length
+        (results_of sizes.entry.words.now sizes.entry.counts.now rows.now next.now sizes.entry.lengths.now
+        (take page.old.at page.old.words.now) changed log.now) }
 {
     let tables = sizes.contents.table_count();
     let counters = sizes.contents.counter_count();
@@ -49,7 +52,7 @@ fn fill(sizes: Sizes, rows: &[u32], next: &[u32], log: &[u32], changed: bool, pa
     bodies::write_log(changed, log, page);
 }
 
-// Puts the answer of a run together in the page's words and answers how many it has. The page has the step bodies at its front; `tables` has the rows that the commit left. Where the answer has no room the words stay as they are.
+// Puts the answer of a run together in the page's words and answers how many it has. The page has the step bodies at its front; `tables` has the rows that the commit left. Where the answer has no room the words and the place stay as they are.
 pub fn assemble(
     words: &[u32],
     tables: &[u32],
@@ -71,6 +74,7 @@ pub fn assemble(
         (left_by words.now tables.now left.entry.log.now lengths.now page.old.at page.old.words.now done
         (left_state left.entry))
         (length page.old.words.now) }
+    ensures place { page.new.at ≡ place_after result page.old.at }
 {
     let counts = done.counts;
     let sizes = Sizes {

@@ -1,6 +1,6 @@
 -- All words of the log left are used, so the answer is made of them (`take-length`). `total` is `whole_length` (`whole_sum`), and the numbers are small (`small`); by the test it is over and the words stay, or the rest is what `fill` ensures.
 use Prim.Native.Nat.{ℕ, ◌+◌, ◌*◌, ◌<◌, ◌≤◌}
-use mathlib.Core.Path.{◌≡◌, ap, refl}
+use mathlib.Core.Path.{◌≡◌, ◌∙◌, ap, sym, refl}
 use native.Mathlib.Omega.{arith}
 use borrow.Author.Tests.{le-leb, lt-leb}
 use lib.ListN.{length, take}
@@ -58,7 +58,7 @@ returns-then-page-total c =
     let at = goal.at.returns-then-page-total c in
     let r : Results = results at.After-of in
     let h : length a.page.now.words.now < whole_length r = rw (← total_is at.After-length_of) c.if-page-total.true in
-    rw (take-length a.left.log.now, lt-leb (whole_length r) (length a.page.now.words.now) h) record { same = record { words = refl; size = refl }; words = refl; length = refl }
+    rw (take-length a.left.log.now, lt-leb (whole_length r) (length a.page.now.words.now) h) record { same = record { words = refl; size = refl }; words = refl; length = refl; place = refl }
 
 pub fill-requires : goal.fill-requires
 fill-requires c =
@@ -76,4 +76,4 @@ returns c =
     let r : Results = results at.After-of in
     let total = total_is at.After-length_of in
     let h : whole_length r ≤ length a.page.now.words.now = rw (← total) c.if-page-total.false in
-    rw (take-length a.left.log.now, le-leb (whole_length r) (length a.page.now.words.now) h) record { same = c.fill.ensures.same; words = c.fill.ensures.words; length = ap (λ (n : ℕ). Ok n) total }
+    rw (take-length a.left.log.now, le-leb (whole_length r) (length a.page.now.words.now) h) record { same = c.fill.ensures.same; words = c.fill.ensures.words; length = ap (λ (n : ℕ). Ok n) total; place = c.fill.ensures.place ∙ sym total }

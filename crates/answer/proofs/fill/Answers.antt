@@ -111,4 +111,5 @@ returns c =
     record {
       same = record { words = last.words ∙ all.same_words; size = last.size ∙ appends_size all ∙ c.shift.auto.answer };
       words = c.write_log.ensures.words ∙ rw (there, all.words, moved) is;
+      place = omega (arith, c.write_log.ensures.at, there, whole_parts r k b p.2 z e);
     }
