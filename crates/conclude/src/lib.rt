@@ -3,6 +3,7 @@
 
 ghost use Rattle.std.specs.Prelude.{◌≡◌, ◌≤◌, length};
 ghost use Rattle.execution.specs.Execution.{left_state};
+ghost use Rattle.answer.specs.Layout.{place_after};
 ghost use Rattle.run.specs.Progress.{SameAnswer, as_progress};
 ghost use Rattle.conclude.specs.End.{Settles, RanOn, refused, settled, concluded, as_settling};
 
@@ -18,6 +19,8 @@ fn settle(book: Book, p: &mut Answered, left: Left, tables: &mut [u32]) -> Resul
     ensures is { as_settling result tables.new p.new.page.now.words.now
         ≡ settled book.entry.words.now (as_progress p.old (left_state left.entry)) left.entry.log.now tables.old p.old.page.now.words.now }
     ensures same { SameAnswer p.old p.new }
+    ensures kept { (p.new.done ≡ p.old.done) × (p.new.lengths ≡ p.old.lengths) }
+    ensures place { p.new.page.now.at ≡ place_after result p.old.page.now.at }
 {
     let words = book.words;
     let done = commit::commit(words, book.contents.table_count(), left.log, tables);
@@ -49,6 +52,8 @@ pub fn conclude(
     ensures is { as_settling result tables.new p.new.page.now.words.now
         ≡ concluded book.entry.words.now (as_progress p.old (left_state left.entry)) left.entry.log.now tables.old p.old.page.now.words.now }
     ensures same { SameAnswer p.old p.new }
+    ensures kept { (p.new.done ≡ p.old.done) × (p.new.lengths ≡ p.old.lengths) }
+    ensures place { p.new.page.now.at ≡ place_after result p.old.page.now.at }
 {
     match left.stop {
         None => settle(book, p, left, tables),
