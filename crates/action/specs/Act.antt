@@ -27,7 +27,7 @@ pub record Lanes : Type 0 where
   pub out : List ℕ
 
 abbrev pub as_lanes : List Bool → Execution → List ℕ → Lanes
-as_lanes live e out = record { live = live; state = state_of e.state; log = e.state.log.words.now; index = e.index.now; out = out }
+as_lanes live e out = record { live = live; state = state_of e.buffer; log = e.buffer.log.words.now; index = e.index.now; out = out }
 
 abbrev pub with_lanes : List Bool → List ℕ → Lanes → Lanes
 with_lanes live out l = record { live = live; state = l.state; log = l.log; index = l.index; out = out }

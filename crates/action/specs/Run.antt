@@ -30,7 +30,7 @@ pub record Running : Type 0 where
   pub index : List ℕ
 
 abbrev pub as_running : Batch → Execution → List ℕ → Running
-as_running b e bindings = record { batch = record { bindings = b.bindings; mask = b.mask; state = state_of e.state }; bindings = bindings; log = e.state.log.words.now; index = e.index.now }
+as_running b e bindings = record { batch = record { bindings = b.bindings; mask = b.mask; state = state_of e.buffer }; bindings = bindings; log = e.buffer.log.words.now; index = e.index.now }
 
 -- dst takes the first n words of an array
 abbrev pub bound_to : Option ℕ → ℕ → List ℕ → List ℕ → List ℕ

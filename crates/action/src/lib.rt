@@ -100,7 +100,7 @@ fn act(
                 table,
                 vals,
             };
-            execution::stage_lanes(view, what, mask, &mut run.state);
+            execution::stage_lanes(view, what, mask, &mut run.buffer);
             mask
         }
         Instr::InsertIfEq { table, l, r, vals } => {
@@ -113,7 +113,7 @@ fn act(
                 view,
                 what,
                 view.retain(Test::Eq(l, r), mask),
-                &mut run.state,
+                &mut run.buffer,
             );
             mask
         }
@@ -123,7 +123,7 @@ fn act(
                 table,
                 vals: args,
             };
-            execution::stage_lanes(view, what, mask, &mut run.state);
+            execution::stage_lanes(view, what, mask, &mut run.buffer);
             mask
         }
         Instr::External { func, args, .. } => view.fill(Ask::External { func, args }, mask, out),
@@ -149,7 +149,7 @@ fn act(
         Instr::AssertAnyNe { ops, divider } => view.retain(Test::AnyNe { ops, divider }, mask),
         Instr::ReadCounter { counter, .. } => {
             // Dead lanes too have the counter's next in dst.
-            let next = run.state.read_counter(counter);
+            let next = run.buffer.state.read_counter(counter);
             out.fill(next);
             mask
         }
@@ -206,7 +206,7 @@ fn run_next(
         ≡ ran_next indexed.entry.book.words.now p (as_running batch.old run.old bindings.old) }
     ensures same { SameWords run.old run.new }
 {
-    if run.state.going() && !batch.mask.is_empty() {
+    if run.buffer.state.going() && !batch.mask.is_empty() {
         let i = instr::instr_at(indexed.book.words, p);
         run_instr(indexed, i, batch, run, bindings);
     }

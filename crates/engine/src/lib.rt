@@ -13,7 +13,7 @@ ghost use Rattle.engine.specs.Engine.{lent_of, Runnable, Decided, outcome_of, An
 
 use contents::Book;
 use counter::Counters;
-use execution::ExecutionState;
+use execution::{ExecutionState, MutationBuffer};
 use predict::Execution;
 use record_log::Log;
 use refusal::Refusal;
@@ -34,19 +34,21 @@ fn counters_of(book: Book) -> Counters
     Counters { next }
 }
 
-// A fresh execution state with an empty log, before the first step.
-fn start<'a>(book: Book, log: &'a mut [u32]) -> ExecutionState<'a>
+// An empty log and a fresh execution state, before the first step.
+fn start<'a>(book: Book, log: &'a mut [u32]) -> MutationBuffer<'a>
     ensures is { state_of result ≡ start_state book.entry.words.now }
     ensures log { (result.log.words.ghost_name ≡ log.entry.ghost_name) × (result.log.words.now ≡ log.old) }
 {
-    ExecutionState {
+    MutationBuffer {
         log: Log {
             words: log,
             used: 0,
         },
-        counters: counters_of(book),
-        changed: false,
-        stop: None,
+        state: ExecutionState {
+            counters: counters_of(book),
+            changed: false,
+            stop: None,
+        },
     }
 }
 
@@ -77,11 +79,11 @@ fn run_book(
         lengths: [0u32; 64],
     };
     let mut run = Execution {
-        state: start(book, log),
+        buffer: start(book, log),
         index,
     };
     run::run_steps(book, &mut p, &mut run, bindings);
-    conclude::conclude(book, &mut p, run.state.left(), tables)
+    conclude::conclude(book, &mut p, run.buffer.left(), tables)
 }
 
 // A book that refusal 1 passes, loaded into an array of N words: refusals 2 to 11, and then its run.

@@ -9,6 +9,7 @@ use Rattle.execution.specs.declared.Stop.TheVariants.{Spent, Full}
 use Rattle.record_log.specs.declared.Change.{Change}
 use Rattle.record_log.specs.declared.Change.TheVariants.{Insert, Remove}
 use Rattle.execution.specs.declared.ExecutionState.{ExecutionState}
+use Rattle.execution.specs.declared.MutationBuffer.{MutationBuffer}
 use Rattle.execution.specs.declared.Left.{Left}
 
 -- what a run keeps beside the log's words: how many of these are used, the counters, the changed flag, and why it stopped, if it did
@@ -18,8 +19,8 @@ pub record RunState : Type 0 where
   pub changed : Bool
   pub stop : Option Stop
 
-abbrev pub state_of : ExecutionState → RunState
-state_of s = record { used = s.log.used; counters = s.counters; changed = s.changed; stop = s.stop }
+abbrev pub state_of : MutationBuffer → RunState
+state_of b = record { used = b.log.used; counters = b.state.counters; changed = b.state.changed; stop = b.state.stop }
 
 -- of what a run leaves, whose words of the log are all used
 abbrev pub left_state : Left → RunState
@@ -33,6 +34,10 @@ goes_on (Some Full) = false
 abbrev pub is_going : RunState → Bool
 is_going s = goes_on s.stop
 
+-- of the state alone
+abbrev pub with_stop : Option Stop → ExecutionState → ExecutionState
+with_stop o s = record { counters = s.counters; changed = s.changed; stop = o }
+
 abbrev pub stopped : Option Stop → RunState → RunState
 stopped o s = record { used = s.used; counters = s.counters; changed = s.changed; stop = o }
 
@@ -44,8 +49,8 @@ pub record Logged : Type 0 where
   pub state : RunState
   pub log : List ℕ
 
-abbrev pub as_logged : ExecutionState → Logged
-as_logged s = record { state = state_of s; log = s.log.words.now }
+abbrev pub as_logged : MutationBuffer → Logged
+as_logged b = record { state = state_of b; log = b.log.words.now }
 
 -- after an attempt to append
 abbrev pub after_append : Option ℕ → RunState → RunState

@@ -7,7 +7,7 @@ ghost use Rattle.lanes.specs.Lanes.{listed};
 ghost use Rattle.record_log.specs.declared.Change.TheVariants.{Insert, Remove};
 ghost use Rattle.record_log.specs.Append.{SameLog};
 ghost use Rattle.record_log.specs.Kinds.{number_of};
-ghost use Rattle.execution.specs.Execution.{state_of, left_state, is_going, stopped, flagged, staged, staged_change, staged_lane, staged_lanes, as_logged};
+ghost use Rattle.execution.specs.Execution.{state_of, left_state, goes_on, with_stop, flagged, staged, staged_change, staged_lane, staged_lanes, as_logged};
 
 use counter::Counters;
 use ids::{CounterId, Lane, TableId};
@@ -23,13 +23,19 @@ pub enum Stop {
     Full,
 }
 
-// What a run keeps: its log, the counters, whether anything was staged, and why the run stopped, if it did.
-#[derive(Drop)]
-pub struct ExecutionState<'a> {
-    pub log: Log<'a>,
+// What a run keeps beside its log: the counters, whether anything was staged, and why the run stopped, if it did.
+#[derive(Clone, Copy)]
+pub struct ExecutionState {
     pub counters: Counters,
     pub changed: bool,
     pub stop: Option<Stop>,
+}
+
+// The log that a run stages its changes in, and what the run keeps beside it.
+#[derive(Drop)]
+pub struct MutationBuffer<'a> {
+    pub log: Log<'a>,
+    pub state: ExecutionState,
 }
 
 // What a run leaves, to be read: the words of its records, the counters, whether anything was staged, and why the run stopped, if it did.
@@ -49,31 +55,17 @@ pub struct Staging {
     pub vals: Entries,
 }
 
-impl ExecutionState<'_> {
+impl ExecutionState {
     // Whether the run goes on.
     pub fn going(&self) -> bool
-        ensures { result ≡ is_going (state_of self.now) }
+        ensures { result ≡ goes_on self.now.stop }
     {
         self.stop.is_none()
     }
 
-    // What the run leaves, with the words of the log that are used.
-    pub fn left(&self) -> Left<'_>
-        ensures log { result.log.now ≡ take self.now.log.used self.now.log.words.now }
-        ensures state { left_state result ≡ state_of self.now }
-    {
-        Left {
-            log: &self.log.words[..self.log.used],
-            counters: self.counters,
-            changed: self.changed,
-            stop: self.stop,
-        }
-    }
-
     // The run stops for a reason.
     pub fn stop_for(&mut self, why: Option<Stop>)
-        ensures is { state_of self.new ≡ stopped why (state_of self.old) }
-        ensures log { self.new.log ≡ self.old.log }
+        ensures { self.new ≡ with_stop why self.old }
     {
         self.stop = why;
     }
@@ -84,6 +76,21 @@ impl ExecutionState<'_> {
     {
         self.counters.read(c)
     }
+}
+
+impl MutationBuffer<'_> {
+    // What the run leaves, with the words of the log that are used.
+    pub fn left(&self) -> Left<'_>
+        ensures log { result.log.now ≡ take self.now.log.used self.now.log.words.now }
+        ensures state { left_state result ≡ state_of self.now }
+    {
+        Left {
+            log: &self.log.words[..self.log.used],
+            counters: self.state.counters,
+            changed: self.state.changed,
+            stop: self.state.stop,
+        }
+    }
 
     // A record of these words. The kinds have the numbers of `RecordKind`.
     #[tactic(auto, unfolding(crate::specs::Execution::staged))]
@@ -93,7 +100,7 @@ impl ExecutionState<'_> {
         ensures same { SameLog self.old.log self.new.log }
     {
         if !self.log.append(kind, table, row) {
-            self.stop = Some(Stop::Full);
+            self.state.stop_for(Some(Stop::Full));
         }
     }
 
@@ -105,7 +112,7 @@ impl ExecutionState<'_> {
         ensures same { SameLog self.old.log self.new.log }
     {
         self.stage(kind as u32, table, row);
-        self.changed = true;
+        self.state.changed = true;
     }
 
     // An insert of a row.
@@ -138,32 +145,32 @@ impl ExecutionState<'_> {
 
 // What a lane stages, if it is one of the mask and the run goes on.
 #[tactic(auto, using(crate::specs::ExecutionLaws::staged_taken), unfolding(crate::specs::Execution::staged_lane, bindings::specs::Columns::fetched))]
-fn stage_lane(view: View, what: Staging, mask: &Mask, lane: Lane, s: &mut ExecutionState)
+fn stage_lane(view: View, what: Staging, mask: &Mask, lane: Lane, buffer: &mut MutationBuffer)
     requires { Short what.vals × (lane.0 < 256) }
-    ensures is { as_logged s.new ≡ staged_lane what.change what.table.0
+    ensures is { as_logged buffer.new ≡ staged_lane what.change what.table.0
         (listed view.entry.words.now view.entry.bindings.now lane.0 what.vals)
-        (get_or mask.now.live lane.0 false) (as_logged s.old) }
-    ensures same { SameLog s.old.log s.new.log }
+        (get_or mask.now.live lane.0 false) (as_logged buffer.old) }
+    ensures same { SameLog buffer.old.log buffer.new.log }
 {
-    if mask.live[lane.0] & s.going() {
+    if mask.live[lane.0] & buffer.state.going() {
         let row = view.fetch(what.vals, lane);
         let words = &row.vals[..row.count];
         match what.change {
-            Change::Insert => s.stage_insert(what.table, words),
-            Change::Remove => s.stage_remove(what.table, words),
+            Change::Insert => buffer.stage_insert(what.table, words),
+            Change::Remove => buffer.stage_remove(what.table, words),
         }
     }
 }
 
 // Each lane of the mask stages a record, ascending, until the log is full.
-pub fn stage_lanes(view: View, what: Staging, mask: Mask, s: &mut ExecutionState)
+pub fn stage_lanes(view: View, what: Staging, mask: Mask, buffer: &mut MutationBuffer)
     requires { Short what.vals }
-    ensures is { as_logged s.new ≡ staged_lanes what.change what.table.0
+    ensures is { as_logged buffer.new ≡ staged_lanes what.change what.table.0
         (λ i. listed view.entry.words.now view.entry.bindings.now i what.vals)
-        mask.live (as_logged s.old) }
-    ensures same { SameLog s.old.log s.new.log }
+        mask.live (as_logged buffer.old) }
+    ensures same { SameLog buffer.old.log buffer.new.log }
 {
     for i in 0..mask.end() {
-        stage_lane(view, what, &mask, Lane(i), s);
+        stage_lane(view, what, &mask, Lane(i), buffer);
     }
 }

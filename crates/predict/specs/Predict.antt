@@ -36,13 +36,13 @@ pub record Held : Type 0 where
   pub index : List ℕ
 
 abbrev pub as_held : Execution → Held
-as_held e = record { state = state_of e.state; log = e.state.log.words.now; index = e.index.now }
+as_held e = record { state = state_of e.buffer; log = e.buffer.log.words.now; index = e.index.now }
 
 -- a call leaves the same words lent, and as many, whatever it puts there
 pub record SameWords (e f : Execution) : Type 0 where
-  pub log : f.state.log.words.ghost_name ≡ e.state.log.words.ghost_name
+  pub log : f.buffer.log.words.ghost_name ≡ e.buffer.log.words.ghost_name
   pub index : f.index.ghost_name ≡ e.index.ghost_name
-  pub size : length f.state.log.words.now ≡ length e.state.log.words.now
+  pub size : length f.buffer.log.words.now ≡ length e.buffer.log.words.now
 
 -- a row was got: whether it was made, and what the run keeps
 pub record Got : Type 0 where
@@ -56,7 +56,7 @@ pub record Gotten : Type 0 where
   pub index : List ℕ
 
 abbrev pub as_gotten : Bool → Execution → Gotten
-as_gotten made e = record { got = record { made = made; state = state_of e.state }; log = e.state.log.words.now; index = e.index.now }
+as_gotten made e = record { got = record { made = made; state = state_of e.buffer }; log = e.buffer.log.words.now; index = e.index.now }
 
 -- with the lanes' words
 pub record Served : Type 0 where
@@ -66,7 +66,7 @@ pub record Served : Type 0 where
   pub out : List ℕ
 
 abbrev pub as_served : Execution → List ℕ → Served
-as_served e out = record { state = state_of e.state; log = e.state.log.words.now; index = e.index.now; out = out }
+as_served e out = record { state = state_of e.buffer; log = e.buffer.log.words.now; index = e.index.now; out = out }
 
 abbrev pub stopped_by : Option Stop → RunState → Got
 stopped_by why s = record { made = false; state = stopped why s }

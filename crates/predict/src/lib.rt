@@ -36,15 +36,15 @@ fn insert(view: View, lane: Lane, want: Keyed, slot: usize, run: &mut Execution)
     ensures same { SameWords run.old run.new }
 {
     let row = want.row;
-    let state = &mut run.state;
-    let Some(b) = build::build(view, lane, want.key, row.vals, state.counters) else {
-        state.stop_for(Some(Stop::Spent));
+    let buffer = &mut run.buffer;
+    let Some(b) = build::build(view, lane, want.key, row.vals, buffer.state.counters) else {
+        buffer.state.stop_for(Some(Stop::Spent));
         return false;
     };
-    let place = state.log.used;
-    state.counters = b.counters;
-    state.stage_predicted(row.of.table, &b.row.vals[..b.row.count]);
-    let made = state.going();
+    let place = buffer.log.used;
+    buffer.state.counters = b.counters;
+    buffer.stage_predicted(row.of.table, &b.row.vals[..b.row.count]);
+    let made = buffer.state.going();
     if made {
         predicted_index::insert(run.index, slot, place);
     }
@@ -70,7 +70,7 @@ impl PredictedVals {
             Slot::Free(slot) => insert(view, lane, want, slot, run),
             // never so: a log has room for 5461 rows at most
             Slot::Full => {
-                run.state.stop_for(Some(Stop::Full));
+                run.buffer.state.stop_for(Some(Stop::Full));
                 false
             }
         }
@@ -81,13 +81,13 @@ impl PredictedVals {
 fn take(view: View, ask: Asking, key: Args, lane: Lane, run: &Execution, out: &mut [u32; 256])
     requires { Searchable view.words.now (option_copied view.chains) ask.row.of × (lane.0 < 256) }
     ensures { out.new ≡ taken_word view.entry.words.now (as_asked ask) key.vals lane.0
-        run.now.state.log.words.now run.now.index.now out.old }
+        run.now.buffer.log.words.now run.now.index.now out.old }
 {
     // lent from a copy, so that the call does not keep all of `key` in memory
     let vals = key.vals;
     let row = predicted_index::row_of(
         view.words,
-        run.state.log.words,
+        run.buffer.log.words,
         view.chains,
         run.index,
         ask.row.of,
@@ -112,11 +112,11 @@ fn serve_lane(
         (as_served run.old out.old) }
     ensures same { SameWords run.old run.new }
 {
-    if mask.live[lane.0] & run.state.going() {
+    if mask.live[lane.0] & run.buffer.state.going() {
         let key = view.fetch(ask.key, lane);
         let want = Keyed { row: ask.row, key };
         PredictedVals::get_or_insert_with(view, lane, want, run);
-        if run.state.going() {
+        if run.buffer.state.going() {
             take(view, ask, key, lane, run, out);
         }
     }
@@ -150,6 +150,6 @@ pub fn predict_val(view: View, want: Keyed, run: &mut Execution) -> bool
         return false;
     }
     let made = PredictedVals::get_or_insert_with(view, Lane(0), want, run);
-    run.state.changed |= made;
+    run.buffer.state.changed |= made;
     made
 }

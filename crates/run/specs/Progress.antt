@@ -30,7 +30,7 @@ pub record Ran : Type 0 where
   pub answer : List ℕ
 
 abbrev pub as_ran : Answered → Execution → (bindings : List ℕ) → Ran
-as_ran p e bindings = record { progress = as_progress p (state_of e.state); bindings = bindings; log = e.state.log.words.now; index = e.index.now; answer = p.page.now.words.now }
+as_ran p e bindings = record { progress = as_progress p (state_of e.buffer); bindings = bindings; log = e.buffer.log.words.now; index = e.index.now; answer = p.page.now.words.now }
 
 -- fewer than 64 steps have answered, of 8483 words each at most
 pub record Early (p : Answered) : Type 0 where

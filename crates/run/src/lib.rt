@@ -49,7 +49,7 @@ fn batch_step(
     ensures same { SameWords run.old run.new × SameAnswer p.old p.new }
 {
     let batch = step::run_batch(indexed, i, run, bindings);
-    if run.state.going() {
+    if run.buffer.state.going() {
         let from = p.page.at;
         step_bodies::write_batch(bindings, batch.bindings, batch.mask, p.page);
         advance(p, from);
@@ -61,9 +61,9 @@ fn write_row(asked: Prediction, run: &Execution, made: bool, page: &mut Page)
     requires { page.old.at ≤ 2 ^ 32 }
     ensures { Places page.old page.new (prediction_words made
         (row_answered asked.entry.indexed.book.words.now asked.entry.at
-        run.now.state.log.words.now run.now.index.now)) }
+        run.now.buffer.log.words.now run.now.index.now)) }
 {
-    let row = step::row_answered(asked, run.state.log.words, run.index);
+    let row = step::row_answered(asked, run.buffer.log.words, run.index);
     step_bodies::write_prediction(row, made, page);
 }
 
@@ -77,7 +77,7 @@ fn prediction_step(asked: Prediction, p: &mut Answered, run: &mut Execution, bin
     ensures same { SameWords run.old run.new × SameAnswer p.old p.new }
 {
     let made = step::run_prediction(asked, run, bindings);
-    if !run.state.going() {
+    if !run.buffer.state.going() {
         return;
     }
     let from = p.page.at;
@@ -94,7 +94,7 @@ fn run_next(indexed: IndexedBook, p: &mut Answered, run: &mut Execution, binding
     ensures fits { Within p.old p.new }
     ensures same { SameWords run.old run.new × SameAnswer p.old p.new }
 {
-    if run.state.stop.is_some() {
+    if run.buffer.state.stop.is_some() {
         return;
     }
     let book = indexed.book;

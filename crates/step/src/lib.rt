@@ -38,7 +38,7 @@ pub fn run_batch(
     requires { IsStep indexed.book.words.now i × (kind_of indexed.book.words.now i ≡ 4) }
     ensures is { as_running result run.new bindings.new
         ≡ ran_batch indexed.entry.book.words.now (first_of indexed.entry.book.words.now i)
-        (state_of run.old.state) run.old.state.log.words.now run.old.index.now }
+        (state_of run.old.buffer) run.old.buffer.log.words.now run.old.index.now }
     ensures same { SameWords run.old run.new }
 {
     let words = indexed.book.words;
@@ -102,7 +102,7 @@ impl Prediction<'_, '_> {
 pub fn run_prediction(asked: Prediction, run: &mut Execution, bindings: &[u32]) -> bool
     ensures is { as_gotten result run.new
         ≡ asked_row asked.entry.indexed.book.words.now bindings.now asked.entry.at
-        (state_of run.old.state) run.old.state.log.words.now run.old.index.now }
+        (state_of run.old.buffer) run.old.buffer.log.words.now run.old.index.now }
     ensures same { SameWords run.old run.new }
 {
     let view = View {

@@ -19,5 +19,5 @@ pub returns-in-InsertIfEq-clause-is : goal.returns-in-InsertIfEq-clause-is
 unfolding acted
 returns-in-InsertIfEq-clause-is c =
     let a = c.args in
-    let l : Lanes = record { live = a.mask.live; state = state_of a.run.now.state; log = a.run.now.state.log.words.now; index = a.run.now.index.now; out = a.out.now } in
+    let l : Lanes = record { live = a.mask.live; state = state_of a.run.now.buffer; log = a.run.now.buffer.log.words.now; index = a.run.now.index.now; out = a.out.now } in
     rw (c.in-InsertIfEq.is, ← c.retain.ensures) (ap (λ (g : Logged). with_log g l) c.stage_lanes-in-InsertIfEq.ensures.is)

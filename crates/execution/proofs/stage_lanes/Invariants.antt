@@ -7,5 +7,5 @@ use Rattle.execution.proofs.stage_lanes.Given as goal
 
 abbrev pub invariant-loop-i : goal.invariant-loop-i
 invariant-loop-i l =
-    SameLog l.initial.s.log l.s.log
-    × (as_logged l.s ≡ iter (λ k. staged_lane l.what.change l.what.table.0 (listed l.view.words.now l.view.bindings.now k l.what.vals) (get_or l.mask.live k false)) l.i (as_logged l.initial.s))
+    SameLog l.initial.buffer.log l.buffer.log
+    × (as_logged l.buffer ≡ iter (λ k. staged_lane l.what.change l.what.table.0 (listed l.view.words.now l.view.bindings.now k l.what.vals) (get_or l.mask.live k false)) l.i (as_logged l.initial.buffer))

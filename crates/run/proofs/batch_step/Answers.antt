@@ -13,7 +13,7 @@ few : (c : After-run_batch-batch) → c.run_batch-batch.result.bindings.matches 
 few c =
     let a = c.args in
     let q = c.requires in
-    omega (arith, ap (λ (x : Running). x.batch.bindings.matches) c.run_batch-batch.ensures.is, lanes_most a.indexed.book.readable q.0 q.1 (state_of a.run.now.state) a.run.now.state.log.words.now a.run.now.index.now)
+    omega (arith, ap (λ (x : Running). x.batch.bindings.matches) c.run_batch-batch.ensures.is, lanes_most a.indexed.book.readable q.0 q.1 (state_of a.run.now.buffer) a.run.now.buffer.log.words.now a.run.now.index.now)
 
 most : (c : After-write_batch) → c.run_batch-batch.result.bindings.matches ≤ 256 → c.write_batch.new.page.at ≤ c.args.p.now.page.now.at + 8483
 most c h =

@@ -10,7 +10,7 @@ most : (c : After-write_row) → c.write_row.new.page.at ≤ c.args.p.now.page.n
 most c =
     let a = c.args.asked in
     let e = c.run_prediction-made.new.run in
-    omega (arith, c.write_row.ensures.at, asked_most a.indexed.book.readable a.asks e.state.log.words.now e.index.now)
+    omega (arith, c.write_row.ensures.at, asked_most a.indexed.book.readable a.asks e.buffer.log.words.now e.index.now)
 
 pub advance-requires : goal.advance-requires
 advance-requires c =
