@@ -1,5 +1,5 @@
 -- A new row, write value by write value: w is the book's words, m the memory of the bindings.
-use Rattle.std.specs.Prelude.{ℕ, ◌+◌, ◌*◌, List, get_or, set, Option, None, Some, option_and_then}
+use Rattle.std.specs.Prelude.{ℕ, ◌+◌, ◌*◌, List, get_or, set, Option, None, Some, option_and_then, Result, Ok, Err, ok_or}
 use Rattle.model.specs.Basics.{iter, found}
 use Rattle.model.specs.Machine.Values.{draw}
 use Rattle.args.specs.declared.Args.{Args}
@@ -32,3 +32,12 @@ written_next w m i p o = option_and_then (written m i (write_at w p)) o
 -- n write values, the first tag at word `at`
 unfoldable pub built : (w m : List ℕ) → ℕ → Args → (at n : ℕ) → Counters → Option Building
 built w m i key at n cs = iter (λ k. written_next w m i (at + 2 * k)) n (Some (record { row = key; counters = cs }))
+
+-- the same of a row that a spent counter may have ended: to such a row nothing is written any more
+abbrev pub built_up_next : (w m : List ℕ) → ℕ → ℕ → Result Building Building → Result Building Building
+built_up_next w m i p (Ok b) = ok_or (written m i (write_at w p) b) b
+built_up_next w m i p (Err b) = Err b
+
+-- n write values: the whole row; or, where a counter is spent, the row so far and the counters after the draws before
+unfoldable pub built_up : (w m : List ℕ) → ℕ → Args → (at n : ℕ) → Counters → Result Building Building
+built_up w m i key at n cs = iter (λ k. built_up_next w m i (at + 2 * k)) n (Ok (record { row = key; counters = cs }))

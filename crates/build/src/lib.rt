@@ -1,9 +1,9 @@
-// A new row: its key, and one word more for each write value in turn. A counter that would pass its limit ends it, and there is no row.
+// A new row: its key, and one word more for each write value in turn. A counter that would pass its limit ends it, and the row is left unfinished.
 #![tactic(auto)]
 
-ghost use Rattle.std.specs.Prelude.{◌≡◌, ◌≤◌, get_or, option_map, IfSome};
+ghost use Rattle.std.specs.Prelude.{◌≡◌, ◌≤◌, get_or, option_map, IfNone, MatchResult};
 ghost use Rattle.instr.specs.Stands.{Short};
-ghost use Rattle.build.specs.Build.{written, built};
+ghost use Rattle.build.specs.Build.{written, built_up};
 
 use args::Args;
 use counter::Counters;
@@ -18,10 +18,11 @@ pub struct Building {
     pub counters: Counters,
 }
 
-// With one write value more, unless that is the next number of a counter that is spent.
+// With one write value more, unless that is the next number of a counter that is spent: then nothing changes.
 #[tactic(auto, unfolding(crate::specs::Build::written))]
 fn write(view: View, lane: Lane, v: WriteVal, b: &mut Building) -> Option<()>
-    ensures { option_map (λ _. b.new) result ≡ written view.entry.bindings.now lane.0 v b.old }
+    ensures is { option_map (λ _. b.new) result ≡ written view.entry.bindings.now lane.0 v b.old }
+    ensures spent { IfNone result (b.new ≡ b.old) }
 {
     let x = match v {
         WriteVal::QueryEntry(e) => view.value(e, lane),
@@ -32,22 +33,24 @@ fn write(view: View, lane: Lane, v: WriteVal, b: &mut Building) -> Option<()>
     Some(())
 }
 
-// A row that begins with the key, of a table with these write values; or none, where a counter was spent.
+// A row that begins with the key, of a table with these write values; or what was built of it before a counter that is spent.
 pub fn build(
     view: View,
     lane: Lane,
     key: Args,
     vals: Entries,
     counters: Counters,
-) -> Option<Building>
+) -> Result<Building, Building>
     requires { Short vals × (key.count ≤ 16) }
-    ensures is { result ≡ built view.entry.words.now view.entry.bindings.now lane.0 key vals.at vals.count counters }
-    ensures fits { IfSome result (λ b. b.row.count ≤ 16) }
+    ensures is { result ≡ built_up view.entry.words.now view.entry.bindings.now lane.0 key vals.at vals.count counters }
+    ensures fits { MatchResult result (λ b. b.row.count ≤ 16) (λ b. b.row.count ≤ 16) }
 {
     let mut b = Building { row: key, counters };
     for k in 0..vals.count {
         let v = instr::write_at(view.words, vals.place(k));
-        write(view, lane, v, &mut b)?;
+        let Some(()) = write(view, lane, v, &mut b) else {
+            return Err(b);
+        };
     }
-    Some(b)
+    Ok(b)
 }

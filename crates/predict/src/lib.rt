@@ -27,7 +27,7 @@ pub struct Row {
 }
 
 // A new row, whose place the index takes up in the free slot; whether it was made.
-#[tactic(auto, using(execution::specs::ExecutionLaws::staged_taken), unfolding(crate::specs::Predict::inserted))]
+#[tactic(auto, using(build::specs::BuildLaws::built_whole, execution::specs::ExecutionLaws::staged_taken), unfolding(crate::specs::Predict::inserted))]
 fn insert(view: View, lane: Lane, want: Keyed, slot: usize, run: &mut Execution) -> bool
     requires { slot < 8192 }
     ensures is { as_gotten result run.new
@@ -36,13 +36,14 @@ fn insert(view: View, lane: Lane, want: Keyed, slot: usize, run: &mut Execution)
     ensures same { SameWords run.old run.new }
 {
     let row = want.row;
-    let buffer = &mut run.buffer;
-    let Some(b) = build::build(view, lane, want.key, row.vals, buffer.state.counters) else {
-        buffer.state.stop_for(Some(Stop::Spent));
+    let state = &mut run.buffer.state;
+    let Ok(b) = build::build(view, lane, want.key, row.vals, state.counters) else {
+        state.stop_for(Some(Stop::Spent));
         return false;
     };
+    state.counters = b.counters;
+    let buffer = &mut run.buffer;
     let place = buffer.log.used;
-    buffer.state.counters = b.counters;
     buffer.stage_predicted(row.of.table, &b.row.vals[..b.row.count]);
     let made = buffer.state.going();
     if made {
