@@ -115,7 +115,8 @@ impl<'a, 'i> Indexed<'a, 'i> {
     #[tactic(auto, using(crate::specs::BookLaws::among_alone))]
     pub fn alone(rows: Rows<'a>, index: Option<&'i [u32]>) -> Self
         requires { IndexOf rows.words.now rows.info (option_copied index) }
-        ensures { (result.rows.words.now ≡ rows.entry.words.now) × (result.rows.info ≡ rows.entry.info) }
+        ensures { (result.rows.words.now ≡ rows.entry.words.now) × (result.rows.info ≡ rows.entry.info)
+            × (option_copied result.index ≡ option_copied index.entry) × (result.first ≡ 0) }
     {
         Indexed {
             rows,
