@@ -35,7 +35,7 @@ fn commit_table(
     done: &mut Committed,
 )
     requires { (t.0 < 16) × RowsStand changes.words.now (info_of changes.words.now t.0)
-        × (length changes.log.now ≤ length gone.old) × (length gone.old ≤ 16384)
+        × (length changes.log.now ≤ length gone.old) × (length changes.log.now ≤ 16384)
         × (done.old.used ≤ length rows.old) × (length rows.old ≤ 16384) }
     ensures rows { as_left rows.new done.new ≡ table_committed changes.entry.words.now changes.entry.log.now t.0
         (as_left rows.old done.old) }

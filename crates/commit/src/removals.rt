@@ -18,7 +18,7 @@ use record_log::{Change, Places};
 // The key of the record at p, if it is a removal of table t.
 fn gather(log: &[u32], p: usize, t: TableId, keys: &mut Keys)
     requires { Room keys.old.width keys.old.count p × (p ≤ length log.now) × (length log.now ≤ length keys.old.words.now)
-        × (is_removal log.now t.0 p ≡ true → p + 2 + keys.old.width ≤ length log.now) }
+        × (length log.now ≤ 16384) × (is_removal log.now t.0 p ≡ true → p + 2 + keys.old.width ≤ length log.now) }
     ensures { LeavesKeys keys.old keys.new (store_turn log.now t.0 keys.old.width p (keys_of keys.old)) }
 {
     let width = keys.width;
@@ -30,7 +30,7 @@ fn gather(log: &[u32], p: usize, t: TableId, keys: &mut Keys)
 // The keys of all removals of table t, in the log's order.
 fn gather_all(words: &[u32], log: &[u32], t: TableId, keys: &mut Keys)
     requires { (keys.old.width ≡ (info_of words.now t.0).keys) × (keys.old.count ≡ 0)
-        × (length log.now ≤ length keys.old.words.now) }
+        × (length log.now ≤ length keys.old.words.now) × (length log.now ≤ 16384) }
     ensures { LeavesKeys keys.old keys.new (laid_onto keys.old.words.now (removed_keys words.now log.now t.0 keys.old.width)) }
 {
     for p in Places::of(words, log) {
@@ -41,7 +41,7 @@ fn gather_all(words: &[u32], log: &[u32], t: TableId, keys: &mut Keys)
 // The same, where it may be known that there is no removal at all, as in most logs.
 fn gather_if(changes: Changes, t: TableId, keys: &mut Keys)
     requires { (keys.old.width ≡ (info_of changes.words.now t.0).keys) × (keys.old.count ≡ 0)
-        × (length changes.log.now ≤ length keys.old.words.now) }
+        × (length changes.log.now ≤ length keys.old.words.now) × (length changes.log.now ≤ 16384) }
     ensures { LeavesKeys keys.old keys.new (laid_onto keys.old.words.now
         (removed_keys changes.entry.words.now changes.entry.log.now t.0 keys.old.width)) }
 {
@@ -101,7 +101,7 @@ fn spare(keys: &Keys, words: &[u32], rows: &mut TableRows)
 // A table's old rows that no removal names. `gone` is lent for the removed keys.
 pub fn keep(changes: Changes, t: TableId, gone: &mut [u32], rows: &mut TableRows)
     requires { (rows.old.info ≡ info_of changes.words.now t.0) × RowsStand changes.words.now rows.old.info
-        × (length changes.log.now ≤ length gone.old) × (length gone.old ≤ 16384) }
+        × (length changes.log.now ≤ length gone.old) × (length changes.log.now ≤ 16384) }
     ensures rows { Leaves rows.old rows.new (kept changes.entry.words.now changes.entry.log.now t.0 rows.old.info rows.old.info.rows
         (rows_of rows.old)) }
     ensures gone { gone.new ≡ gone_after changes.entry.words.now changes.entry.log.now t.0 gone.old }
