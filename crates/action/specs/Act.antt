@@ -17,6 +17,7 @@ use Rattle.record_log.specs.declared.Change.TheVariants as change
 use Rattle.execution.specs.Execution.{RunState, state_of, Logged, staged_lanes}
 use Rattle.predict.specs.declared.run.Execution.{Execution}
 use Rattle.predict.specs.Predict.{Asked, Served, served_lanes}
+use Rattle.action.specs.declared.lookup.Wanted.{Wanted}
 
 -- the live lanes, what the run keeps, and the array of the lanes' dst
 pub record Lanes : Type 0 where
@@ -45,6 +46,9 @@ row_ask w t key col = AskRow (sought_in w t) key col
 -- the predicted row that a lane asks for
 abbrev pub asking : List ℕ → TableId → Entries → Entries → ColumnId → Asked
 asking w t args vals col = record { row = record { of = sought_in w t; vals = vals }; key = args; col = col }
+
+abbrev pub asked_by : Wanted → Asked
+asked_by a = record { row = a.row; key = a.key; col = a.col }
 
 module _ (w m : List ℕ) where
   abbrev pub unanswered : Ask → List Bool → List Bool

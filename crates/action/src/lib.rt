@@ -20,7 +20,7 @@ use ids::{STALE, Variable};
 use instr::Instr;
 use lanes::{Ask, Test, View};
 use mask::Mask;
-use predict::Execution;
+use predict::{Asking, Execution};
 use record_log::Change;
 
 // A batch as it runs: what its bindings keep beside the lent words, and which lanes are live.
@@ -59,7 +59,12 @@ fn act(
             dst_col,
             ..
         } => {
-            let ask = lookup::predicted_ask(words, table, args, default, dst_col);
+            let wanted = lookup::predicted_ask(words, table, args, default, dst_col);
+            let ask = Asking {
+                row: wanted.row,
+                key: wanted.key,
+                col: wanted.col,
+            };
             lookup::lookup_or_insert_default(view, ask, mask, run, out);
             mask
         }

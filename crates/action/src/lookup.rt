@@ -1,10 +1,9 @@
 // Lookups over the lanes of a batch, each with what serves the lanes that it misses.
 ghost use Rattle.std.specs.Prelude.{◌≡◌, option_copied};
-ghost use Rattle.instr.specs.Stands.{Short};
 ghost use Rattle.predicted_index.specs.Row.{Searchable};
 ghost use Rattle.lanes.specs.Lanes.{AskFits};
 ghost use Rattle.predict.specs.Predict.{SameWords, as_asked};
-ghost use Rattle.action.specs.Act.{row_ask, asking, either_lanes, either_words, serving, as_lanes};
+ghost use Rattle.action.specs.Act.{row_ask, asking, asked_by, either_lanes, either_words, serving, as_lanes};
 
 use ids::{ColumnId, TableId};
 use instr::Entries;
@@ -24,6 +23,14 @@ pub fn row_ask(words: &[u32], table: TableId, key: Entries, col: ColumnId) -> As
     }
 }
 
+// What a lane asks for, by lists of any length; those of an `Asking` are short.
+#[derive(Clone, Copy)]
+pub struct Wanted {
+    pub row: Row,
+    pub key: Entries,
+    pub col: ColumnId,
+}
+
 // A column of the predicted row with a key, and the write values of a new one.
 pub fn predicted_ask(
     words: &[u32],
@@ -31,11 +38,10 @@ pub fn predicted_ask(
     key: Entries,
     default: Entries,
     col: ColumnId,
-) -> Asking
-    requires { Short key × Short default }
-    ensures { as_asked result ≡ asking words.now table key default col }
+) -> Wanted
+    ensures { asked_by result ≡ asking words.now table key default col }
 {
-    Asking {
+    Wanted {
         row: Row {
             of: Sought::of(words, table),
             vals: default,

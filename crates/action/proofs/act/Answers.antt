@@ -13,7 +13,7 @@ lookup_or_insert_default-requires c =
     let b = c.args.indexed in
     let w = b.book.words.now in
     let s = rw c.in-LookupOrInsertDefault.is at c.requires in
-    subst (λ (a : Asked). Searchable w (option_copied b.chains) a.row.of) (sym c.predicted_ask-ask.ensures) (searchable w _ b.book.readable b.indexed _ s.0)
+    subst (λ (a : Asked). Searchable w (option_copied b.chains) a.row.of) (sym c.predicted_ask-wanted.ensures) (searchable w _ b.book.readable b.indexed _ s.0)
 
 pub returns-in-InsertIfEq-clause-is : goal.returns-in-InsertIfEq-clause-is
 unfolding acted
