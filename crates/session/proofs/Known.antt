@@ -1,14 +1,31 @@
 -- Bytes that are known to come, read one part after the other.
-use Rattle.std.specs.Prelude.{ℕ, ◌+◌, ◌<◌, ◌≤◌, ◌≡◌, List, [], ◌∷◌, ◌++◌, length, take, Option, None, Some, Result, Ok, Err, IfSome, IfOk, OnOk, MatchResult, true, is_ok}
-use Rattle.std.proofs.Common.{sym, ap, subst, ◌∙◌, arith, lt-ltb, length-take, length-take-le, take_all}
+use Rattle.std.specs.Prelude.{ℕ, ◌+◌, ◌-◌, ◌<◌, ◌≤◌, ◌≡◌, List, [], ◌∷◌, ◌++◌, length, take, drop, Option, None, Some, Result, Ok, Err, IfSome, IfOk, OnOk, MatchResult, true, is_ok}
+use Rattle.std.proofs.Common.{sym, ap, subst, ◌∙◌, arith, append_assoc, lt-ltb, length-take, length-take-le, take_all}
 use Rattle.std.proofs.lemmas.Bool.{lt-leb}
 use Rattle.std.proofs.lemmas.List.{append-nil}
 use Rattle.std.proofs.Math.Decide.{dec_lt}
-use Rattle.std.proofs.Math.Seq.{take-append-add, take-append-le, take-append_seam}
+use Rattle.std.proofs.Math.Seq.{take-add, take-append-add, take-append-le, take-append_seam}
 use Rattle.model.specs.Outcome.{refusal, book_refusal}
 use Rattle.model.specs.Printed.{printed, refused}
 use Rattle.model.specs.Claims.Cases.{dispatch_lends}
 use Rattle.std.specs.Io.KnownBytes.{Appends, Consumes, IsAtEnd}
+
+part_more : (bytes : List ℕ) (at next : ℕ) → at < next → take next bytes ≡ take at bytes ++ take (next - at) (drop at bytes)
+part_more bytes at next h =
+    let e : next ≡ at + (next - at) = omega arith in
+    ap (λ (k : ℕ). take k bytes) e ∙ take-add at (next - at) bytes
+
+-- what was read so far, and the part that one more read put behind it
+pub consumes_more : (a b c : Option (List ℕ)) (old new : List ℕ) (at next : ℕ) → at < next → Consumes a b (take at old) → take at new ≡ take at old → Consumes b c (take (next - at) (drop at new)) → Consumes a c (take next new)
+consumes_more None b c old new at next h f e g = tt
+consumes_more (Some xs) None c old new at next h f e g = absurd f
+consumes_more (Some xs) (Some ys) None old new at next h f e g = absurd g
+consumes_more (Some xs) (Some ys) (Some zs) old new at next h f e g =
+    f
+    ∙ ap (λ (l : List ℕ). l ++ ys) (sym e)
+    ∙ ap (λ (l : List ℕ). take at new ++ l) g
+    ∙ sym (append_assoc (take at new) (take (next - at) (drop at new)) zs)
+    ∙ ap (λ (l : List ℕ). l ++ zs) (sym (part_more new at next h))
 
 -- the bytes up to `at` and those that were read behind them
 pub front_more : (at n : ℕ) (old part rest : List ℕ) → at ≤ length old → n ≤ length part → take (at + n) (take at old ++ (part ++ rest)) ≡ take at old ++ take n part
