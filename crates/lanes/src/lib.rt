@@ -109,6 +109,16 @@ fn retain_by<F: Fn(bool, Lane) -> bool>(mut mask: Mask, passes: F) -> Mask
     mask
 }
 
+// What an entry stands for in a lane of these bindings.
+fn value_in(bindings: &[u32], e: QueryEntry, lane: Lane) -> u32
+    ensures { result ≡ word_of bindings.now lane.0 (entry_of e) }
+{
+    match e {
+        QueryEntry::Var(v) => bindings::variable(bindings, v, lane),
+        QueryEntry::Const(x) => x,
+    }
+}
+
 impl<'a> View<'a> {
     // What a list of entries stands for in a lane.
     pub fn fetch(self, list: Entries, lane: Lane) -> Args
@@ -122,10 +132,7 @@ impl<'a> View<'a> {
     pub fn value(self, e: QueryEntry, lane: Lane) -> u32
         ensures { result ≡ word_of self.entry.bindings.now lane.0 (entry_of e) }
     {
-        match e {
-            QueryEntry::Var(v) => bindings::variable(self.bindings, v, lane),
-            QueryEntry::Const(x) => x,
-        }
+        value_in(self.bindings, e, lane)
     }
 
     // What a table answers in a lane: a column of the committed row with the key.
@@ -223,6 +230,30 @@ impl<'a> View<'a> {
         any_ne(&vals[..ops.count], divider)
     }
 
+    // A pass of `retain`: `passes` tells of the words of two entries in a lane whether it stays. A run has 8192 words of bindings: in an array of these no lane tests for their end, so that the loop compares several lanes at once.
+    fn retain_pair<F: Fn(u32, u32) -> bool>(
+        self,
+        l: QueryEntry,
+        r: QueryEntry,
+        mask: Mask,
+        passes: F,
+    ) -> Mask
+        requires { F.IsAlwaysCallable passes }
+        ensures { (test : ℕ → ℕ → Bool)
+            → ((x y : ℕ) (b : Bool) → F.post passes x y b → b ≡ test x y)
+            → result.live ≡ kept (λ i. test (word_of self.entry.bindings.now i (entry_of l))
+            (word_of self.entry.bindings.now i (entry_of r))) mask.live }
+    {
+        match self.bindings.as_array::<8192>() {
+            Some(columns) => retain_by(mask, |live, lane| {
+                live & passes(value_in(columns, l, lane), value_in(columns, r, lane))
+            }),
+            None => retain_by(mask, |live, lane| {
+                live & passes(self.value(l, lane), self.value(r, lane))
+            }),
+        }
+    }
+
     // The lanes of the mask that pass; the others are dropped.
     #[tactic(auto, unfolding(crate::specs::Lanes::holds))]
     pub fn retain(self, test: Test, mask: Mask) -> Mask
@@ -230,12 +261,8 @@ impl<'a> View<'a> {
         ensures { result.live ≡ kept (holds self.entry.words.now self.entry.bindings.now test) mask.live }
     {
         match test {
-            Test::Eq(l, r) => retain_by(mask, |live, lane| {
-                live & (self.value(l, lane) == self.value(r, lane))
-            }),
-            Test::Ne(l, r) => retain_by(mask, |live, lane| {
-                live & (self.value(l, lane) != self.value(r, lane))
-            }),
+            Test::Eq(l, r) => self.retain_pair(l, r, mask, |x, y| x == y),
+            Test::Ne(l, r) => self.retain_pair(l, r, mask, |x, y| x != y),
             Test::AnyNe { ops, divider } => {
                 retain_by(mask, |live, lane| live && self.differ(ops, divider, lane))
             }
