@@ -26,7 +26,7 @@ test_of (Below n) = spec.below n
 test_of (UpTo n) = spec.up_to n
 test_of (Range a b) = spec.tag a b
 
--- 0 is none: no walk stands at word 0 of the book
+-- 0 is none: no body has word 0 of the book
 abbrev pub place_of : Option ℕ → ℕ
 place_of None = 0
 place_of (Some p) = p

@@ -1,6 +1,5 @@
 // The five kinds of bodies. A walk begins at the body's first word, and has to come out at its end.
 ghost use Rattle.std.specs.Prelude.{◌≡◌, ◌<◌};
-ghost use Rattle.model.specs.Book.Contents as book;
 ghost use Rattle.model.specs.Book.Read as read;
 ghost use Rattle.model.specs.Book.Scan as spec;
 ghost use Rattle.contents.specs.Kinds.{kind_number};
@@ -125,7 +124,7 @@ impl<'a> Body<'a> {
 // The walk over body i. One of no kind draws 3.
 #[tactic(auto, using(contents::specs::KindLaws::number_of_kind, crate::specs::BodyLaws::scan_none))]
 pub fn past_body(words: &[u32], sizes: Contents, i: usize) -> Option<Walk>
-    requires { (i < 128) × (0 < book.first_of words.now i) × (sizes_of sizes ≡ read.sizes words.now) }
+    requires { (i < 128) × (sizes_of sizes ≡ read.sizes words.now) }
     ensures { scan_of result ≡ read.walk words.now i }
 {
     let kind = contents::body_kind(words, i)?;

@@ -25,7 +25,7 @@ pub struct Body<'a> {
     pub sizes: Contents,
     pub first: usize,
     pub end: usize,
-    ghost near: { (0 < first) × (first < 2 ^ 32) },
+    ghost near: { first < 2 ^ 32 },
 }
 
 // Nothing, or a fault where a test does not pass.

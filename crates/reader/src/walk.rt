@@ -10,13 +10,12 @@ pub enum Fault {
     Stale,
 }
 
-// The word that a walk stands at, with the first words that drew 6 and 4. None of them is word 0 of the book, which no body has. A walk that draws 3 ends, and is `None`.
+// The word that a walk stands at, with the first words that drew 6 and 4. None of these is word 0 of the book, which no body has, and which is not noted. A walk that draws 3 ends, and is `None`.
 #[derive(Clone, Copy)]
 pub struct Walk {
     pub at: usize,
     pub absent: Option<usize>,
     pub stale: Option<usize>,
-    ghost after: { 0 < at },
     ghost noted: { IfSome absent (λ p. 0 < p) × IfSome stale (λ p. 0 < p) } by { Prim.hlevel props },
 }
 
@@ -29,11 +28,12 @@ impl Walk {
         ensures { gone_to (self.at + 1) result
             ≡ spec.mark (draw_of drawn) self.at (place_of self.absent) (place_of self.stale) }
     {
+        let here = (0 < self.at).then_some(self.at);
         match drawn {
             Ok(()) => {}
             Err(Fault::Layout) => return None,
-            Err(Fault::Absent) => self.absent = self.absent.or(Some(self.at)),
-            Err(Fault::Stale) => self.stale = self.stale.or(Some(self.at)),
+            Err(Fault::Absent) => self.absent = self.absent.or(here),
+            Err(Fault::Stale) => self.stale = self.stale.or(here),
         }
         Some(self)
     }

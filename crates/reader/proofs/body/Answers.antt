@@ -6,11 +6,11 @@ use Rattle.model.specs.Book.Contents.{kind_of}
 use Rattle.contents.specs.declared.kinds.Kind.TheVariants.{Table}
 use Rattle.contents.specs.Kinds.{kind_by}
 use Rattle.contents.specs.KindLaws.{is_table}
-use Rattle.reader.specs.ReadLaws.{few, after_contents, body_rows}
+use Rattle.reader.specs.ReadLaws.{few, body_rows}
 use Rattle.reader.proofs.body.Goals as goal
 
 pub past_body-requires : goal.past_body-requires
-past_body-requires c = (few c.requires, after_contents c.requires, c.requires.is_sizes)
+past_body-requires c = (few c.requires, c.requires.is_sizes)
 
 pub body_kind-requires : goal.body_kind-requires
 body_kind-requires c = omega (arith, few c.requires)
