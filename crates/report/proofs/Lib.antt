@@ -1,3 +1,2 @@
-pub mod Append
 pub mod Pieces
 pub mod Prints

@@ -11,14 +11,19 @@ pub struct Page<'a> {
 }
 
 impl Page<'_> {
-    // All of `bytes`.
+    // All of `bytes`, one by one: a piece of a line has a byte or two mostly, for which a call that copies costs more. The loop has a place of its own, since the one in `self` would be read again after each byte.
     pub(crate) fn append(&mut self, bytes: &[u8])
         ensures { Appends self.old self.new bytes.now }
     {
-        let from = self.at.min(self.out.len());
-        let n = bytes.len().min(self.out.len() - from);
-        self.out[from..from + n].copy_from_slice(&bytes[..n]);
-        self.at += n;
+        let out = &mut *self.out;
+        let mut at = self.at;
+        for b in bytes {
+            if at < out.len() {
+                out[at] = *b;
+                at += 1;
+            }
+        }
+        self.at = at;
     }
 
     // A blank and a number. The library's `write!` promises its text only where nothing fails; this does always.
