@@ -70,7 +70,7 @@ pub struct Rows<'a> {
 }
 
 impl Rows<'_> {
-    // The row with the key: the first words of it, as many as the table's keys have.
+    // The row with the key: the first words of it, as many as the table's keys have. Each row's place is added to the one before: worked out by `row_at`, it is a multiplication for every row that is passed.
     #[tactic(auto, using(crate::specs::TablesLaws::found_nothing))]
     pub fn find(self, key: &[u32]) -> Option<usize>
         requires { self.info.keys ≤ length key.now }
@@ -78,11 +78,12 @@ impl Rows<'_> {
     {
         let info = self.info;
         let key = &key[..info.keys];
+        let mut at = info.at;
         for i in 0..info.rows {
-            let at = info.row_at(i);
             if same_words(self.words, at, key) {
                 return Some(at);
             }
+            at += info.width;
         }
         None
     }
