@@ -16,6 +16,7 @@ use Rattle.tables.specs.Tables.{info_of, front, same_words, found_row}
 use Rattle.tables.specs.TablesLaws.{next_row, row_within}
 use Rattle.record_log.specs.Walk.{end_of, is_removal, walked}
 use Rattle.commit.specs.Walk.{removal_turn, any_removal, remove_turn, removed, Keys, with_key, gather_turn, store_key, store_turn, removed_keys, laid_onto, key_table, is_there}
+use Rattle.commit.specs.Keys.{Room, KeyRoom}
 use Rattle.commit.specs.RowLaws.{paste_onto}
 use Rattle.record_log.specs.WalkLaws.{end_after, removal_end, walked_both}
 
@@ -113,3 +114,12 @@ none_gathered w log t k = walked_both (end_of w log) (length log) (removal_turn 
     one false true here f s h e = absurd (let z : ◌≡◌ {A = ℕ} 0 1 = cc in omega arith)
     one false false true f s h e = h refl
     one false false false f s h e = h refl
+
+-- ## Room for keys
+
+-- in words that are not too many, as those of the array that a commit lends, both say the same
+pub room_of : {width count n : ℕ} → KeyRoom width count n → n ≤ 16384 → Room width count n
+room_of r h = record { fits = r.fits; few = h }
+
+pub key_room_of : {width count n : ℕ} → Room width count n → KeyRoom width count n
+key_room_of r = record { fits = r.fits; few = omega (arith, r.fits, r.few) }

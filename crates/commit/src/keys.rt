@@ -1,7 +1,7 @@
 // The keys of a table's removals, one after the other in words that are lent for them.
 ghost use Rattle.std.specs.Prelude.{◌≡◌, ◌+◌, ◌*◌, ◌≤◌, length, take};
 ghost use Rattle.commit.specs.Walk.{store_key, key_table};
-ghost use Rattle.commit.specs.Keys.{Room};
+ghost use Rattle.commit.specs.Keys.{KeyRoom};
 
 use tables::{Rows, TableInfo};
 
@@ -11,7 +11,7 @@ pub struct Keys<'a> {
     pub words: &'a mut [u32],
     pub width: usize,
     pub count: usize,
-    ghost room: { Room width count (length words.now) },
+    ghost room: { KeyRoom width count (length words.now) },
 }
 
 impl Keys<'_> {
@@ -19,7 +19,7 @@ impl Keys<'_> {
 
     // One key more, past those that are there.
     pub fn push(&mut self, key: &[u32])
-        requires { (length key.now ≡ self.old.width) × Room self.old.width (self.old.count + 1) (length self.old.words.now) }
+        requires { (length key.now ≡ self.old.width) × KeyRoom self.old.width (self.old.count + 1) (length self.old.words.now) }
         ensures { LeavesKeys self.old self.new (store_key key.now self.old.width (keys_of self.old)) }
     {
         words::copy(key, self.words, self.count * self.width);

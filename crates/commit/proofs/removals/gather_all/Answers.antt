@@ -19,7 +19,7 @@ gather-requires c =
     let g = c.in-Some.ensures.steps in
     let n = record_end i.4 g in
     rw (i.2) (
-      record { fits = omega (arith, i.3.fits, g.gives.0); few = i.3.few },
+      record { fits = omega (arith, i.3.fits, g.gives.0); few = omega (arith, i.3.few, g.gives.0) },
       omega (arith, n.1, end_after a.words.now a.log.now p),
       omega (arith, c.requires.2, i.1),
       c.requires.3,
@@ -41,7 +41,7 @@ loop-p-preserved c =
       r.same_words ∙ i.0,
       r.same_size ∙ i.1,
       r.same_width ∙ i.2,
-      record { fits = omega (arith, f, ap (λ (x : Keys). x.count * k + 2 * x.count) e, n.0); few = omega (arith, f, ap (λ (x : Keys). x.count * k + 2 * x.count) e, n.1, c.requires.3) },
+      record { fits = omega (arith, f, ap (λ (x : Keys). x.count * k + 2 * x.count) e, n.0); few = omega (arith, n.0, n.1, c.requires.3) },
       walks_more i.4 g e,
     )
 
