@@ -4,3 +4,4 @@ pub mod ScanLaws
 pub mod BodyLaws
 pub mod RowLaws
 pub mod ReadLaws
+pub mod PastLaws
