@@ -23,10 +23,11 @@ impl Walk {
     ghost use Rattle.model.specs.Book.Scan as spec;
     ghost use Rattle.reader.specs.Values.{draw_of, place_of, gone_to};
 
-    // Notes the word that it stands at, by what that draws, where none before drew the same.
+    // Notes the word that it stands at, by what that draws, where none before drew the same. The walk stays there.
     pub fn note(mut self, drawn: Result<(), Fault>) -> Option<Walk>
-        ensures { gone_to (self.at + 1) result
+        ensures is { gone_to (self.at + 1) result
             ≡ spec.mark (draw_of drawn) self.at (place_of self.absent) (place_of self.stale) }
+        ensures stays { IfSome result (λ w. w.at ≡ self.at) }
     {
         let here = (0 < self.at).then_some(self.at);
         match drawn {
