@@ -1,6 +1,8 @@
 -- How long a text is: the lines of an answer have at most 11 bytes for each of its words, and the line of a refusal has 53 at most.
-use Rattle.std.specs.Prelude.{ℕ, zero, suc, ◌+◌, ◌*◌, ◌/◌, ◌%◌, ◌^◌, ◌<◌, ◌≤◌, ◌≡◌, refl, Bool, true, false, cond, List, [], ◌∷◌, ◌++◌, map, ltb, eqb, get_or, drop, set}
-use Rattle.std.proofs.Common.{ap, ◌∙◌, pow-suc, add-zero, lt-ltb, le-ltb, length-append, length-set}
+use Rattle.std.specs.Prelude.{ℕ, zero, suc, ◌+◌, ◌*◌, ◌/◌, ◌%◌, ◌^◌, ◌<◌, ◌≤◌, ◌≡◌, refl, Bool, true, false, cond, List, [], ◌∷◌, ◌++◌, map, ltb, eqb, get_or, take, drop, set}
+use Rattle.std.proofs.Common.{sym, ap, ◌∙◌, pow-suc, add-zero, lt-ltb, le-ltb, take-append-drop, drop_of_length-le, length-append, length-set}
+use Rattle.std.proofs.Math.Seq.{length-sets}
+use Rattle.std.proofs.lemmas.List.{length-take-le}
 use Rattle.std.proofs.Math.Decide.{dec_lt}
 use native.Mathlib.Omega.{arith}
 use Rattle.std.proofs.Math.ListN.{length}
@@ -12,7 +14,7 @@ use Rattle.model.specs.Answer.{Body, contents_from, lay_out, flag, table_body, c
 use Rattle.model.specs.Printed.{Line, run, row, ins, del, changed, table, counter, refused, step_lines, record_line, record_lines, table_lines, counter_lines}
 use Rattle.model.specs.Laws.Logic.{All-left, All-right}
 use Rattle.report.specs.Text.{digits, field, fields, run_name, row_name, ins_name, del_name, changed_name, table_name, counter_name, refused_name, at_name, line_bytes, text, up_to, pushed, appended}
-use Rattle.report.specs.TextLaws.{text_append, text_one}
+use Rattle.report.specs.TextLaws.{appended_append, text_append, text_one}
 
 -- ## A text that has room
 
@@ -29,6 +31,26 @@ pub text_fits : (bs l : List ℕ) → length bs ≤ length l → appended bs (up
 text_fits bs l h =
     let e : 0 + length bs ≡ length bs = omega arith in
     stored bs l 0 (omega arith) ∙ rw e (ap (λ (x : List ℕ). up_to x (length bs)) (sets-eq bs l 0 (omega arith) ∙ rw e))
+
+-- ## A text that is cut off
+
+-- a full buffer takes nothing
+pub full : (bs l : List ℕ) (at : ℕ) → length l ≤ at → appended bs (up_to l at) ≡ up_to l at
+unfolding appended pushed
+full [] l at h = refl
+full (b ∷ bs) l at h = rw (le-ltb at (length l) h) (full bs l at h)
+
+-- the bytes that have room stand there, and the others change nothing
+pub cut : (bs l : List ℕ) (at n : ℕ) → n ≤ length bs → at + n ≤ length l → (n < length bs → at + n ≡ length l) → appended bs (up_to l at) ≡ up_to (sets l at (take n bs)) (at + n)
+unfolding appended
+cut bs l at n long room more =
+    let front = take n bs in
+    let size = length-take-le n bs long in
+    let first = ap (λ (b : List ℕ). appended b (up_to l at)) (sym (take-append-drop n bs)) ∙ appended_append front (drop n bs) (up_to l at) ∙ ap (appended (drop n bs)) (stored front l at (omega (arith, size))) in
+    first ∙ rw size (elim (dec_lt n (length bs)) [
+      | yes h ↦ full (drop n bs) (sets l at front) (at + n) (omega (arith, more h, length-sets l at front))
+      | no h ↦ rw (drop_of_length-le bs {i = n} (omega arith)) refl
+    ])
 
 -- ## Numbers below 10 ^ 10 have ten digits at most
 
