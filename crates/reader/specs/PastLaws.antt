@@ -1,4 +1,4 @@
--- No walk over a body of a book stands at its word 0: one that has come past a word of a body stands past it, whatever the body, and so does one that is to begin, since no body of a book whose contents pass begins there.
+-- A walk that has come past a word of a body stands past word 0 of the book, whatever the body. So does one that begins, by `after_contents`: no body of a book whose contents pass has word 0.
 use Rattle.std.specs.Prelude.{ℕ, zero, suc, ◌<◌, Bool, true, false, List, [], ◌∷◌}
 use Rattle.std.proofs.Common.{arith}
 use Rattle.model.specs.Basics.{iter}
@@ -8,8 +8,6 @@ use Rattle.model.specs.Machine.Functions.{function_count}
 use Rattle.model.specs.Book.Contents.{kind_of, first_of, end_of}
 use Rattle.model.specs.Book.Read.{walk as over, sizes}
 use Rattle.model.specs.Book.Scan.{Draw, fine, three, six, four, Scan, bad, good, ◌▹◌, mark, require, Sizes, any_word, below, up_to, clean, opcode, tag, tagged, peek, step, finish, left, word, list, block, pair, field, walk, instr, scan_table, scan_counter, scan_rule, scan_batch, scan_prediction, scan}
-use Rattle.reader.specs.Places.{BodyAt}
-use Rattle.reader.specs.ReadLaws.{after_contents}
 
 -- a walk that goes on stands past word 0
 abbrev pub Past : Scan → Type 0
@@ -127,7 +125,3 @@ module _ (end : ℕ) where
 -- a walk that has come over a body of a book
 pub over_past : (w : List ℕ) (i : ℕ) → Past (over w i)
 over_past w i = scan_past (end_of w i) w (sizes w) (kind_of w i) (first_of w i)
-
--- a walk that is to begin over a body of a book whose contents pass
-pub start_past : {w : List ℕ} {z : Sizes} {i : ℕ} → BodyAt w z i → Past (good (first_of w i) 0 0)
-start_past b = after_contents b
